@@ -1,0 +1,274 @@
+-- T2. Adding a term to a sound table: refused as too deep, found, entered as one new line, or refused for want of room.
+-- Each is tied to the trees: the depth, an old label that denotes the tree, and no label that does.
+use Prim.Native.Nat.{ℕ, zero, suc, _+_, _<_, _≤_}
+use mathlib.Core.Path.{_≡_, refl, sym, ap, ap₂, _∙_, subst}
+use mathlib.Core.Bool.{Bool, true, false}
+use mathlib.Core.List.{List, [], _∷_, _++_}
+use native.Mathlib.Omega.{arith}
+use native.Mathlib.Numerals.{add-one}
+use lib.ListN.{length, getD, take, set, length-set}
+use lib.Seq.{take-set-le, getD-take, getD-set-same, getD-set-other, getD-at, length-take-le}
+use lib.Dec.{ltb, eqb}
+use borrow.Author.Tests.{ltb-true, ltb-false, eqb-true, eqb-false}
+use Rattle.terms.specs.Base.{pick, held}
+use Rattle.terms.specs.Term.{shapeOf, inLimits, partsBy, partsBelow}
+use Rattle.terms.specs.Line.{packed, termIn, lineAt, termAt}
+use Rattle.terms.specs.Grade.{aboveLine, aboveBoth, gradeBy, gradeOf}
+use Rattle.terms.specs.Table.{findIn, findLine, added, addBy, addTo}
+use Rattle.terms.specs.Sound.{Sound}
+use Rattle.terms.specs.Tree.{Tree, nought, deepness, member}
+use Rattle.terms.specs.Meaning.{build, trees, treeOf, means, Den}
+use Rattle.terms.specs.Promise.{Fit, Grows, Adds, deep, listed, new, full}
+use Rattle.terms.specs.declared.term.Term.{Term}
+use Rattle.terms.specs.declared.term.Shape.{Shape}
+use Rattle.terms.specs.declared.term.Shape.the-variants.{Bare, Number, Variable, Sealed, Hashed, Applied, Joined, Unknown}
+use Rattle.terms.specs.declared.line.Grade.{Grade}
+use Rattle.terms.specs.declared.table.Found.{Found}
+use Rattle.terms.specs.declared.table.Found.the-variants.{At, Nothing}
+use Rattle.terms.specs.declared.table.Outcome.the-variants as O
+use Rattle.terms.proofs.Pack.{Small, term-packed}
+use Rattle.terms.proofs.Meaning.{length-trees, trees-next, also-left, also-right, parts-more, tree-at, grade-depth, depth-right, term-one, one-label, member-den, trees-front}
+
+-- What a search among lines tells
+
+-- line i of the lines that begin with label o is n
+record Hit (o : ℕ) (ms : List ℕ) (n i : ℕ) : Type 0 where
+  place : ℕ
+  label : i ≡ o + place
+  below : place < length ms
+  is : getD ms place 0 ≡ n
+
+hit-by : (o m n i : ℕ) (ms : List ℕ) (t : Bool) → eqb m n ≡ t → pick t (At o) (findIn (o + 1) ms n) ≡ At i
+    → (findIn (o + 1) ms n ≡ At i → Hit (o + 1) ms n i) → Hit o (m ∷ ms) n i
+hit-by o m n i ms true e h f = let q : o ≡ i = cc in record { place = 0; label = omega arith; below = omega arith; is = eqb-true m n e }
+hit-by o m n i ms false e h f =
+    let r = f h in
+    record { place = suc (r .place); label = omega (arith, r .label); below = omega (arith, r .below); is = r .is }
+
+find-hit : (o : ℕ) (ms : List ℕ) (n i : ℕ) → findIn o ms n ≡ At i → Hit o ms n i
+unfolding findIn
+find-hit o [] n i h = let z : _≡_ {A = ℕ} 0 1 = cc in absurd (omega arith)
+find-hit o (m ∷ ms) n i h = hit-by o m n i ms (eqb m n) refl h (find-hit (o + 1) ms n i)
+
+miss-by : (o m n : ℕ) (ms : List ℕ) (t : Bool) → eqb m n ≡ t → pick t (At o) (findIn (o + 1) ms n) ≡ Nothing
+    → (findIn (o + 1) ms n ≡ Nothing → (j : ℕ) → j < length ms → getD ms j 0 ≡ n → ⊥) → (j : ℕ) → j < length (m ∷ ms) → getD (m ∷ ms) j 0 ≡ n → ⊥
+miss-by o m n ms true e h f j k q = let z : _≡_ {A = ℕ} 0 1 = cc in omega arith
+miss-by o m n ms false e h f zero k q = eqb-false m n e q
+miss-by o m n ms false e h f (suc j) k q = f h j (omega arith) q
+
+find-miss : (o : ℕ) (ms : List ℕ) (n : ℕ) → findIn o ms n ≡ Nothing → (j : ℕ) → j < length ms → getD ms j 0 ≡ n → ⊥
+unfolding findIn
+find-miss o [] n h j k q = omega arith
+find-miss o (m ∷ ms) n h j k q = miss-by o m n ms (eqb m n) refl h (find-miss (o + 1) ms n) j k q
+
+-- a label among the lines used
+record Found-at (l : List ℕ) (c n i : ℕ) : Type 0 where
+  below : i < c
+  is : lineAt l i ≡ n
+
+line-hit : (l : List ℕ) (c n i : ℕ) → c ≤ length l → findLine l c n ≡ At i → Found-at l c n i
+unfolding findLine
+line-hit l c n i h e =
+    let r = find-hit 0 (take c l) n i e in
+    let m = length-take-le c l h in
+    let q : i ≡ r .place = omega (arith, r .label) in
+    let b : r .place < c = omega (arith, r .below, m) in
+    record { below = omega arith; is = ap (λ (k : ℕ). getD l k 0) q ∙ sym (getD-take c l (r .place) 0 b) ∙ r .is }
+
+line-miss : (l : List ℕ) (c n : ℕ) → c ≤ length l → findLine l c n ≡ Nothing → (j : ℕ) → j < c → lineAt l j ≡ n → ⊥
+unfolding findLine
+line-miss l c n h e j k q =
+    let m = length-take-le c l h in
+    find-miss 0 (take c l) n e j (omega (arith, m, k)) (getD-take c l j 0 k ∙ q)
+
+-- The grade of a term hangs on the lines of its parts alone
+
+grade-by : (s : Shape) (a b n : ℕ) (l m : List ℕ) → partsBy s a b n ≡ true → ((j : ℕ) → j < n → lineAt l j ≡ lineAt m j) → gradeBy s l a b ≡ gradeBy s m a b
+grade-by Bare a b n l m p f = refl
+grade-by Number a b n l m p f = refl
+grade-by Variable a b n l m p f = refl
+grade-by Sealed a b n l m p f = ap aboveLine (f a (ltb-true a n p))
+grade-by Hashed a b n l m p f = ap aboveLine (f a (ltb-true a n p))
+grade-by Applied a b n l m p f = ap aboveLine (f b (ltb-true b n p))
+grade-by Joined a b n l m p f =
+    ap₂ aboveBoth (f a (ltb-true a n (also-left (ltb a n) (ltb b n) p))) (f b (ltb-true b n (also-right (ltb a n) (ltb b n) p)))
+grade-by Unknown a b n l m p f = refl
+
+-- equal lines below n give equal grades to a term with parts below n
+pub grade-agree : (x : Term) (n : ℕ) (l m : List ℕ) → partsBelow x n ≡ true → ((j : ℕ) → j < n → lineAt l j ≡ lineAt m j) → gradeOf l x ≡ gradeOf m x
+unfolding partsBelow gradeOf
+grade-agree x n l m p f = grade-by (shapeOf (x .kind)) (x .a) (x .b) n l m p f
+
+-- The line of a new term, and the table with it
+
+abbrev newLine : List ℕ → Term → ℕ
+newLine l x = packed x (gradeOf l x)
+
+abbrev pushed : List ℕ → ℕ → Term → List ℕ
+pushed l c x = set l c (newLine l x)
+
+fit-small : {x : Term} {c : ℕ} → Fit x c → Small x
+fit-small F = record { kind = F .kind; first = F .first; second = F .second }
+
+-- below c, or c itself
+last-or : (P : ℕ → Type 0) (c : ℕ) → ((i : ℕ) → i < c → P i) → P c → (i : ℕ) → i < c + 1 → P i
+last-or P c f q i h = by (ltb i c) refl
+  where
+    by : (t : Bool) → ltb i c ≡ t → P i
+    by true e = f i (ltb-true i c e)
+    by false e = let g = ltb-false i c e in let r : c ≡ i = omega arith in subst P r q
+
+-- a term that has no line as computed stands at no label
+no-term : {l : List ℕ} {c : ℕ} → Sound l c → (x : Term) → ((i : ℕ) → i < c → lineAt l i ≡ newLine l x → ⊥) → (i : ℕ) → i < c → termAt l i ≡ x → ⊥
+no-term {l} S x none i h e = none i h (sym (S .lines i h) ∙ ap (newLine l) e)
+
+module _ (l : List ℕ) (c : ℕ) (S : Sound l c) (p : length l ≡ 512) (x : Term) (F : Fit x c) (low : gradeOf l x .depth ≤ 16) (room : c < 512)
+    (none : (i : ℕ) → i < c → lineAt l i ≡ newLine l x → ⊥) where
+  line-old : (i : ℕ) → i < c → lineAt l i ≡ lineAt (pushed l c x) i
+  line-old i h = sym (getD-set-other l c i (newLine l x) 0 (omega arith))
+
+  line-new : newLine l x ≡ lineAt (pushed l c x) c
+  line-new = sym (getD-set-same l c (newLine l x) 0 (omega arith))
+
+  term-new : x ≡ termAt (pushed l c x) c
+  term-new = sym (term-packed x (gradeOf l x) (fit-small F)) ∙ ap termIn line-new
+
+  grade-old : (i : ℕ) → i < c → gradeOf l (termAt l i) ≡ gradeOf (pushed l c x) (termAt l i)
+  grade-old i h = grade-agree (termAt l i) c l (pushed l c x) (parts-more (termAt l i) i c (omega arith) (S .parts i h)) line-old
+
+  grade-new : gradeOf l x ≡ gradeOf (pushed l c x) x
+  grade-new = grade-agree x c l (pushed l c x) (F .parts) line-old
+
+  line-right-old : (i : ℕ) → i < c → packed (termAt (pushed l c x) i) (gradeOf (pushed l c x) (termAt (pushed l c x) i)) ≡ lineAt (pushed l c x) i
+  line-right-old i h =
+      let m = pushed l c x in
+      ap (λ (n : ℕ). packed (termIn n) (gradeOf m (termIn n))) (sym (line-old i h))
+      ∙ ap (packed (termAt l i)) (sym (grade-old i h)) ∙ S .lines i h ∙ line-old i h
+
+  line-right-new : packed (termAt (pushed l c x) c) (gradeOf (pushed l c x) (termAt (pushed l c x) c)) ≡ lineAt (pushed l c x) c
+  line-right-new =
+      let m = pushed l c x in
+      ap (λ (y : Term). packed y (gradeOf m y)) (sym term-new) ∙ ap (packed x) (sym grade-new) ∙ line-new
+
+  low-old : (i : ℕ) → i < c → gradeOf (pushed l c x) (termAt (pushed l c x) i) .depth ≤ 16
+  low-old i h =
+      let m = pushed l c x in
+      let e = ap (λ (g : Grade). g .depth) (grade-old i h) ∙ ap (λ (n : ℕ). gradeOf m (termIn n) .depth) (line-old i h) in
+      omega (arith, e, S .shallow i h)
+
+  low-new : gradeOf (pushed l c x) (termAt (pushed l c x) c) .depth ≤ 16
+  low-new =
+      let m = pushed l c x in
+      let e = ap (λ (g : Grade). g .depth) grade-new ∙ ap (λ (y : Term). gradeOf m y .depth) term-new in
+      omega (arith, e, low)
+
+  one-old : (i : ℕ) → i < c → (j : ℕ) → j < c + 1 → termAt (pushed l c x) i ≡ termAt (pushed l c x) j → i ≡ j
+  one-old i h =
+      let m = pushed l c x in
+      last-or (λ j. termAt m i ≡ termAt m j → i ≡ j) c
+      (λ j g e. S .distinct i j h g (ap termIn (line-old i h) ∙ e ∙ sym (ap termIn (line-old j g))))
+      (λ e. absurd (no-term S x none i h (ap termIn (line-old i h) ∙ e ∙ sym term-new)))
+
+  one-new : (j : ℕ) → j < c + 1 → termAt (pushed l c x) c ≡ termAt (pushed l c x) j → c ≡ j
+  one-new =
+      let m = pushed l c x in
+      last-or (λ j. termAt m c ≡ termAt m j → c ≡ j) c
+      (λ j g e. absurd (no-term S x none j g (ap termIn (line-old j g) ∙ sym e ∙ sym term-new)))
+      (λ e. refl)
+
+  -- a sound table with a new term that fits is sound
+  sound-pushed : Sound (pushed l c x) (c + 1)
+  sound-pushed =
+      let m = pushed l c x in
+      record {
+        some = omega (arith, S .some);
+        room = omega arith;
+        fixed = λ i h. sym (line-old i (omega (arith, S .some, h))) ∙ S .fixed i h;
+        limits = last-or (λ i. inLimits (termAt m i) ≡ true) c
+            (λ i h. subst (λ (n : ℕ). inLimits (termIn n) ≡ true) (line-old i h) (S .limits i h))
+            (subst (λ (y : Term). inLimits y ≡ true) term-new (F .limits));
+        parts = last-or (λ i. partsBelow (termAt m i) i ≡ true) c
+            (λ i h. subst (λ (n : ℕ). partsBelow (termIn n) i ≡ true) (line-old i h) (S .parts i h))
+            (subst (λ (y : Term). partsBelow y c ≡ true) term-new (F .parts));
+        shallow = last-or (λ i. gradeOf m (termAt m i) .depth ≤ 16) c low-old low-new;
+        lines = last-or (λ i. packed (termAt m i) (gradeOf m (termAt m i)) ≡ lineAt m i) c line-right-old line-right-new;
+        distinct = λ i j h g. last-or (λ k. (r : ℕ) → r < c + 1 → termAt m k ≡ termAt m r → k ≡ r) c one-old one-new i h j g;
+        zeros = λ i h. getD-set-other l c i (newLine l x) 0 (omega arith) ∙ S .zeros i (omega arith);
+      }
+
+  grows-pushed : Grows l c (pushed l c x) (c + 1)
+  grows-pushed =
+      record { sound = sound-pushed; long = length-set l c (newLine l x) ∙ p; rises = omega arith; front = take-set-le c l c (newLine l x) (omega arith) }
+
+  trees-pushed : trees (pushed l c x) (c + 1) ≡ trees l c ++ (means l c x ∷ [])
+  unfolding means
+  trees-pushed =
+      let m = pushed l c x in
+      let n : c < length m = omega (arith, length-set l c (newLine l x), p, room) in
+      ap (trees m) (add-one c) ∙ trees-next m c n
+      ∙ ap₂ (λ (ts : List Tree) (y : Term). ts ++ (build y ts ∷ [])) (trees-front grows-pushed) (sym term-new)
+
+  den-pushed : Den (pushed l c x) (c + 1) c (means l c x)
+  unfolding treeOf
+  den-pushed =
+      record {
+        below = omega arith;
+        is = ap (λ (ts : List Tree). getD ts c nought) trees-pushed ∙ getD-at (trees l c) (means l c x) [] nought c (length-trees l c p (S .room));
+      }
+
+-- The answers
+
+-- the depth that the new line would get is that of the tree
+pub fit-depth : {l : List ℕ} {c : ℕ} → Sound l c → length l ≡ 512 → (x : Term) → partsBelow x c ≡ true → gradeOf l x .depth ≡ deepness (means l c x)
+unfolding means treeOf
+fit-depth {l} {c} S p x h = grade-depth x c l (trees l c) h (depth-right S p)
+
+-- a label of the tree has the term's line
+means-line : {l : List ℕ} {c i : ℕ} → Sound l c → length l ≡ 512 → (x : Term) → Fit x c → Den l c i (means l c x) → lineAt l i ≡ newLine l x
+unfolding means treeOf
+means-line {l} {c} {i} S p x F D =
+    let h = D .below in
+    let e : build (termAt l i) (trees l c) ≡ build x (trees l c) = sym (tree-at S p i h) ∙ D .is in
+    let t : termAt l i ≡ x = term-one (termAt l i) x c c (trees l c) (S .limits i h) (F .limits) (parts-more (termAt l i) i c (omega arith) (S .parts i h)) (F .parts) (one-label S p) e in
+    sym (S .lines i h) ∙ ap (newLine l) t
+
+-- a line that is not there is a tree that is not there
+not-member : {l : List ℕ} {c : ℕ} → Sound l c → length l ≡ 512 → (x : Term) → Fit x c → ((i : ℕ) → i < c → lineAt l i ≡ newLine l x → ⊥)
+    → member (means l c x) (trees l c) ≡ false
+not-member {l} {c} S p x F none = by (member (means l c x) (trees l c)) refl
+  where
+    by : (t : Bool) → member (means l c x) (trees l c) ≡ t → t ≡ false
+    by true e = let d = member-den S p (means l c x) e in absurd (none (d .0) (d .1 .below) (means-line S p x F (d .1)))
+    by false e = refl
+
+-- the label of the term's line denotes the tree
+line-den : {l : List ℕ} {c i : ℕ} → Sound l c → length l ≡ 512 → (x : Term) → Fit x c → Found-at l c (newLine l x) i → Den l c i (means l c x)
+line-den {l} {c} {i} S p x F r =
+    let t : termAt l i ≡ x = ap termIn (r .is) ∙ term-packed x (gradeOf l x) (fit-small F) in
+    record { below = r .below; is = tree-at S p i (r .below) ∙ ap (means l c) t }
+
+adds-room : {l : List ℕ} {c : ℕ} → Sound l c → length l ≡ 512 → (x : Term) → Fit x c → gradeOf l x .depth ≤ 16 → ((i : ℕ) → i < c → lineAt l i ≡ newLine l x → ⊥)
+    → (t : Bool) → ltb c 512 ≡ t → Adds l c x (pick t (held (added (O.New c) (c + 1)) (pushed l c x)) (held (added O.Full c) l))
+adds-room {l} {c} S p x F low none true e =
+    let h = ltb-true c 512 e in
+    new (omega (arith, fit-depth S p x (F .parts))) (not-member S p x F none) h
+    (grows-pushed l c S p x F low h none) (den-pushed l c S p x F low h none) (trees-pushed l c S p x F low h none)
+adds-room {l} {c} S p x F low none false e =
+    full (omega (arith, fit-depth S p x (F .parts))) (not-member S p x F none) (omega (arith, ltb-false c 512 e, S .room))
+
+adds-found : {l : List ℕ} {c : ℕ} → Sound l c → length l ≡ 512 → (x : Term) → Fit x c → gradeOf l x .depth ≤ 16
+    → (f : Found) → findLine l c (newLine l x) ≡ f → Adds l c x (addBy f l c (newLine l x))
+adds-found {l} {c} S p x F low (At i) e =
+    listed (omega (arith, fit-depth S p x (F .parts))) (line-den S p x F (line-hit l c (newLine l x) i (omega (arith, S .room, p)) e))
+adds-found {l} {c} S p x F low Nothing e =
+    adds-room S p x F low (line-miss l c (newLine l x) (omega (arith, S .room, p)) e) (ltb c 512) refl
+
+adds-by : {l : List ℕ} {c : ℕ} → Sound l c → length l ≡ 512 → (x : Term) → Fit x c → (t : Bool) → ltb 16 (gradeOf l x .depth) ≡ t
+    → Adds l c x (pick t (held (added O.Deep c) l) (addBy (findLine l c (newLine l x)) l c (newLine l x)))
+adds-by {l} S p x F true e = deep (omega (arith, ltb-true 16 (gradeOf l x .depth) e, fit-depth S p x (F .parts)))
+adds-by {l} {c} S p x F false e = adds-found S p x F (ltb-false 16 (gradeOf l x .depth) e) (findLine l c (newLine l x)) refl
+
+-- T2. What `addTo` answers, for a term that may be the next line
+pub adds : {l : List ℕ} {c : ℕ} → Sound l c → length l ≡ 512 → (x : Term) → Fit x c → Adds l c x (addTo l c x)
+unfolding addTo
+adds {l} S p x F = adds-by S p x F (ltb 16 (gradeOf l x .depth)) refl

@@ -1,0 +1,210 @@
+-- The test that the code runs over a table says exactly that the table is sound, and the fresh table passes it.
+-- So what is proved of sound tables holds of every table that the code has let through, and no sound table is turned away.
+use Prim.Native.Nat.{ℕ, zero, suc, _+_, _-_, _≤_, _<_}
+use mathlib.Core.Path.{_≡_, refl, sym, ap, _∙_}
+use mathlib.Core.Bool.{Bool, true, false}
+use mathlib.Core.List.{List, [], _∷_}
+use native.Mathlib.Omega.{arith}
+use lib.ListN.{length, getD, take, drop}
+use lib.Dec.{ltb, eqb}
+use lib.Seq.{getD-take, getD-drop, length-take-le}
+use borrow.Author.Tests.{ltb-true, ltb-false, le-ltb, eqb-true, eqb-false, eq-eqb, ne-eqb}
+use Rattle.terms.specs.Base.{pick}
+use Rattle.terms.specs.Term.{shapeOf, inLimits, partsBelow}
+use Rattle.terms.specs.Line.{packed, termIn, depthIn, groundIn, lineAt, termAt}
+use Rattle.terms.specs.Grade.{deeperOf, aboveLine, aboveBoth, gradeOf}
+use Rattle.terms.specs.Table.{fixedLine, freshTable, findIn, findLine}
+use Rattle.terms.specs.Sound.{fixedFirst, isNew, lineSound, linesFrom, allZero, soundTest, Sound}
+use Rattle.terms.specs.declared.term.Term.{Term}
+use Rattle.terms.specs.declared.table.Found.the-variants.{At}
+
+-- tests one after another: what a passed chain of them says, and the way back
+both-pass : (p q : Bool) → pick p q false ≡ true → (p ≡ true) × (q ≡ true)
+both-pass true q e = (refl, e)
+both-pass false q e = (e, cc)
+
+pass-both : {p q : Bool} → p ≡ true → q ≡ true → pick p q false ≡ true
+pass-both e f = rw (e, f)
+
+unless-pass : (p q : Bool) → pick p false q ≡ true → (p ≡ false) × (q ≡ true)
+unless-pass true q e = (sym e, cc)
+unless-pass false q e = (refl, e)
+
+pass-unless : {p q : Bool} → p ≡ false → q ≡ true → pick p false q ≡ true
+pass-unless e f = rw (e, f)
+
+-- a line is new exactly if no line before it is the same
+pub new-other : (k : ℕ) (l : List ℕ) (n : ℕ) → isNew (findIn k l n) ≡ true → (j : ℕ) → j < length l → getD l j 0 ≡ n → ⊥
+unfolding findIn
+new-other k [] n e j h s = omega arith
+new-other k (m ∷ l) n e j h s = go (eqb m n) refl e j h s (new-other (k + 1) l n)
+  where
+    go : (b : Bool) → eqb m n ≡ b → isNew (pick b (At k) (findIn (k + 1) l n)) ≡ true
+        → (j : ℕ) → j < length (m ∷ l) → getD (m ∷ l) j 0 ≡ n
+        → (isNew (findIn (k + 1) l n) ≡ true → (i : ℕ) → i < length l → getD l i 0 ≡ n → ⊥) → ⊥
+    go true f p i h s ih = let z : _≡_ {A = ℕ} 0 1 = cc in omega arith
+    go false f p zero h s ih = eqb-false m n f s
+    go false f p (suc i) h s ih = ih p i (omega arith) s
+
+pub other-new : (k : ℕ) (l : List ℕ) (n : ℕ) → ((j : ℕ) → j < length l → getD l j 0 ≡ n → ⊥) → isNew (findIn k l n) ≡ true
+unfolding findIn
+other-new k [] n f = refl
+other-new k (m ∷ l) n f = rw (ne-eqb m n (f 0 (omega arith))) (other-new (k + 1) l n (λ j h. f (suc j) (omega arith)))
+
+module _ (l : List ℕ) (long : length l ≡ 512) where
+  pub new-line : (i : ℕ) → i ≤ 512 → isNew (findLine l i (lineAt l i)) ≡ true → (j : ℕ) → j < i → lineAt l j ≡ lineAt l i → ⊥
+  unfolding findLine
+  new-line i h e j s p = new-other 0 (take i l) (lineAt l i) e j (rw (length-take-le i l (omega arith)) s) (getD-take i l j 0 s ∙ p)
+
+  pub line-new : (i : ℕ) → i ≤ 512 → ((j : ℕ) → j < i → lineAt l j ≡ lineAt l i → ⊥) → isNew (findLine l i (lineAt l i)) ≡ true
+  unfolding findLine
+  line-new i h f = other-new 0 (take i l) (lineAt l i) (λ j s p. let t : j < i = omega (arith, length-take-le i l (omega arith)) in f j t (sym (getD-take i l j 0 t) ∙ p))
+
+-- every line from i on is judged
+lines-all : (n i : ℕ) (l : List ℕ) → linesFrom n i l ≡ true → (j : ℕ) → i ≤ j → j < i + n → lineSound l j ≡ true
+unfolding linesFrom
+lines-all zero i l e j h k = absurd (omega arith)
+lines-all (suc n) i l e j h k = go (ltb i j) refl (lines-all n (i + 1) l (both-pass (lineSound l i) (linesFrom n (i + 1) l) e .1) j)
+  where
+    go : (b : Bool) → ltb i j ≡ b → (i + 1 ≤ j → j < i + 1 + n → lineSound l j ≡ true) → lineSound l j ≡ true
+    go true f ih = ih (omega (arith, ltb-true i j f)) (omega arith)
+    go false f ih = let s : j ≡ i = omega (arith, ltb-false i j f) in rw s (both-pass (lineSound l i) (linesFrom n (i + 1) l) e .0)
+
+all-lines : (n i : ℕ) (l : List ℕ) → ((j : ℕ) → i ≤ j → j < i + n → lineSound l j ≡ true) → linesFrom n i l ≡ true
+unfolding linesFrom
+all-lines zero i l f = refl
+all-lines (suc n) i l f = pass-both (f i (omega arith) (omega arith)) (all-lines n (i + 1) l (λ j h k. f j (omega arith) (omega arith)))
+
+-- all that is left is zero
+zero-at : (l : List ℕ) → allZero l ≡ true → (i : ℕ) → getD l i 0 ≡ 0
+unfolding allZero
+zero-at [] e i = refl
+zero-at (m ∷ l) e zero = eqb-true m 0 (both-pass (eqb m 0) (allZero l) e .0)
+zero-at (m ∷ l) e (suc i) = zero-at l (both-pass (eqb m 0) (allZero l) e .1) i
+
+at-zero : (l : List ℕ) → ((i : ℕ) → getD l i 0 ≡ 0) → allZero l ≡ true
+unfolding allZero
+at-zero [] f = refl
+at-zero (m ∷ l) f = pass-both (eq-eqb m 0 (f 0)) (at-zero l (λ i. f (suc i)))
+
+-- what the test says of one line
+record Judged (l : List ℕ) (i : ℕ) : Type 0 where
+  limits : inLimits (termAt l i) ≡ true
+  parts : partsBelow (termAt l i) i ≡ true
+  shallow : gradeOf l (termAt l i) .depth ≤ 16
+  line : packed (termAt l i) (gradeOf l (termAt l i)) ≡ lineAt l i
+  new : isNew (findLine l i (lineAt l i)) ≡ true
+
+judged : (l : List ℕ) (i : ℕ) → lineSound l i ≡ true → Judged l i
+unfolding lineSound
+judged l i e =
+    let a = both-pass _ _ e in
+    let b = both-pass _ _ (a .1) in
+    let c = unless-pass _ _ (b .1) in
+    let d = both-pass _ _ (c .1) in
+    record {
+      limits = a .0;
+      parts = b .0;
+      shallow = ltb-false 16 (gradeOf l (termAt l i) .depth) (c .0);
+      line = eqb-true _ _ (d .0);
+      new = d .1;
+    }
+
+judge : (l : List ℕ) (i : ℕ) → Judged l i → lineSound l i ≡ true
+unfolding lineSound
+judge l i j = pass-both (j .limits) (pass-both (j .parts) (pass-unless (le-ltb 16 (gradeOf l (termAt l i) .depth) (j .shallow)) (pass-both (eq-eqb _ _ (j .line)) (j .new))))
+
+-- labels 0, 1, 2
+first-fixed : (l : List ℕ) → fixedFirst l ≡ true → (i : ℕ) → i < 3 → lineAt l i ≡ fixedLine i
+unfolding fixedFirst
+first-fixed l e i h =
+    let p = both-pass (is 0) (pick (is 1) (is 2) false) e in
+    let q = both-pass (is 1) (is 2) (p .1) in
+    go i h (p .0) (q .0) (q .1)
+  where
+    is : ℕ → Bool
+    is k = eqb (lineAt l k) (fixedLine k)
+
+    go : (k : ℕ) → k < 3 → is 0 ≡ true → is 1 ≡ true → is 2 ≡ true → lineAt l k ≡ fixedLine k
+    go zero h p q r = eqb-true (lineAt l 0) (fixedLine 0) p
+    go (suc zero) h p q r = eqb-true (lineAt l 1) (fixedLine 1) q
+    go (suc (suc zero)) h p q r = eqb-true (lineAt l 2) (fixedLine 2) r
+    go (suc (suc (suc k))) h p q r = absurd (omega arith)
+
+fixed-first : (l : List ℕ) → ((i : ℕ) → i < 3 → lineAt l i ≡ fixedLine i) → fixedFirst l ≡ true
+unfolding fixedFirst
+fixed-first l f = pass-both (eq-eqb _ _ (f 0 (omega arith))) (pass-both (eq-eqb _ _ (f 1 (omega arith))) (eq-eqb _ _ (f 2 (omega arith))))
+
+-- lines judged one by one are terms that all differ
+module _ (l : List ℕ) (long : length l ≡ 512) (c : ℕ) (room : c ≤ 512) (js : (i : ℕ) → i < c → Judged l i) where
+  same-line : (i j : ℕ) → i < c → j < c → termAt l i ≡ termAt l j → lineAt l i ≡ lineAt l j
+  same-line i j h k e = sym (js i h .line) ∙ ap (λ (x : Term). packed x (gradeOf l x)) e ∙ js j k .line
+
+  differ : (i j : ℕ) → i < c → j < c → termAt l i ≡ termAt l j → i ≡ j
+  differ i j h k e = go (ltb i j) refl (ltb j i) refl
+    where
+      go : (a : Bool) → ltb i j ≡ a → (b : Bool) → ltb j i ≡ b → i ≡ j
+      go true f b g = absurd (new-line l long j (omega arith) (js j k .new) i (ltb-true i j f) (same-line i j h k e))
+      go false f true g = absurd (new-line l long i (omega arith) (js i h .new) j (ltb-true j i g) (sym (same-line i j h k e)))
+      go false f false g = omega (arith, ltb-false i j f, ltb-false j i g)
+
+-- the parts of the test, each as facts
+lines-judged : (l : List ℕ) (c : ℕ) → linesFrom c 0 l ≡ true → (i : ℕ) → i < c → Judged l i
+lines-judged l c e i h = judged l i (lines-all c 0 l e i (omega arith) (omega arith))
+
+rest-zero : (l : List ℕ) (c : ℕ) → allZero (drop c l) ≡ true → (i : ℕ) → c ≤ i → lineAt l i ≡ 0
+rest-zero l c e i h =
+    let z : c + (i - c) ≡ i = omega arith in
+    rw (getD-drop c l (i - c) 0, z) at (zero-at (drop c l) e (i - c))
+
+-- what passes the test is sound
+pub test-sound : {l : List ℕ} {c : ℕ} → length l ≡ 512 → soundTest l c ≡ true → Sound l c
+unfolding soundTest
+test-sound {l} {c} long e =
+    let p = unless-pass _ _ e in
+    let q = unless-pass _ _ (p .1) in
+    let r = both-pass _ _ (q .1) in
+    let s = both-pass _ _ (r .1) in
+    let room : c ≤ 512 = ltb-false 512 c (q .0) in
+    let js : (i : ℕ) → i < c → Judged l i = lines-judged l c (s .0) in
+    record {
+      some = ltb-false c 3 (p .0);
+      room = room;
+      fixed = first-fixed l (r .0);
+      limits = λ i h. js i h .limits;
+      parts = λ i h. js i h .parts;
+      shallow = λ i h. js i h .shallow;
+      lines = λ i h. js i h .line;
+      distinct = differ l long c room js;
+      zeros = rest-zero l c (s .1);
+    }
+
+-- what is sound passes the test
+pub sound-test : {l : List ℕ} {c : ℕ} → length l ≡ 512 → Sound l c → soundTest l c ≡ true
+unfolding soundTest
+sound-test {l} {c} long s =
+    pass-unless (le-ltb c 3 (s .some))
+    (pass-unless (le-ltb 512 c (s .room))
+    (pass-both (fixed-first l (s .fixed))
+    (pass-both (all-lines c 0 l (λ i a b. judge l i (fine i (omega arith)))) (at-zero (drop c l) (λ i. getD-drop c l i 0 ∙ s .zeros (c + i) (omega arith))))))
+  where
+    fine : (i : ℕ) → i < c → Judged l i
+    fine i h = record {
+      limits = s .limits i h;
+      parts = s .parts i h;
+      shallow = s .shallow i h;
+      line = s .lines i h;
+      new = line-new l long i (omega (arith, s .room)) (λ j k e. let z : j ≡ i = s .distinct j i (omega arith) h (ap termIn e) in omega arith);
+    }
+
+pub fresh-long : length (freshTable .lines) ≡ 512
+unfolding freshTable
+fresh-long = refl
+
+fresh-passes : soundTest (freshTable .lines) (freshTable .count) ≡ true
+unfolding freshTable soundTest fixedFirst linesFrom lineSound allZero fixedLine packed termIn depthIn groundIn inLimits partsBelow shapeOf gradeOf aboveLine aboveBoth deeperOf findLine findIn
+fresh-passes = refl
+
+-- the fresh table is sound
+pub fresh-sound : Sound (freshTable .lines) (freshTable .count)
+fresh-sound = test-sound fresh-long fresh-passes

@@ -1,0 +1,102 @@
+-- The laws that the proofs of the functions share: what a test tells a definition, one turn of each loop, one step
+-- down of each recursion.
+use Prim.Native.Nat.{ℕ, zero, suc, _+_, _-_, _<_, _≤_, min}
+use mathlib.Core.Bool.{Bool, true, false}
+use mathlib.Core.List.{List}
+use mathlib.Core.Path.{_≡_, refl}
+use native.Mathlib.Numerals.{add-one, sub-one}
+use native.Mathlib.Nat.{sub-add-eq, sub-eq-zero-of-le}
+use native.Mathlib.Omega.{arith}
+use lib.ListN.{length, getD, take, drop, set, length-take, drop-of-length-le}
+use lib.Seq.{drop-cons, getD-take}
+use lib.Dec.{ltb, eqb}
+use borrow.Author.Tests.{ltb-true, ltb-false, le-leb, lt-leb, lt-ltb, le-ltb, eq-eqb, ne-eqb}
+use Rattle.terms.specs.Base.{pick, held}
+use Rattle.terms.specs.Table.{usedOf, findIn, wipe}
+use Rattle.terms.specs.Subst.{planAt, fitsBy, fitsWithin, subbed, walkBy, substIn}
+use Rattle.terms.specs.Sound.{lineSound, linesFrom, allZero}
+use Rattle.terms.specs.declared.table.Found.the-variants.{At, Nothing}
+use Rattle.terms.specs.declared.subst.Got.the-variants.{Deep}
+
+-- a test on numbers, as the branch tells it
+pub ruleset tests = (le-leb, lt-leb, lt-ltb, le-ltb, eq-eqb, ne-eqb)
+
+-- the lines that a count takes of a table
+used-by : (b : Bool) (c n : ℕ) → ltb c 512 ≡ b → n ≡ 512 → min c n ≡ pick b c 512
+used-by true c n e h = omega (arith, ltb-true c 512 e)
+used-by false c n e h = omega (arith, ltb-false c 512 e)
+
+pub used-long : (l : List ℕ) (c : ℕ) → length l ≡ 512 → length (take c l) ≡ usedOf c
+unfolding usedOf
+used-long l c h = rw length-take (used-by (ltb c 512) c (length l) refl h)
+
+-- find: one line
+module _ (l : List ℕ) (c n i : ℕ) where
+  taken-at : i < length (take c l) → getD (take c l) i 0 ≡ getD l i 0
+  taken-at h = getD-take c l i 0 (omega (arith, length-take c l))
+
+  pub find-hit : i < length (take c l) → getD l i 0 ≡ n → findIn i (drop i (take c l)) n ≡ At i
+  unfolding findIn
+  find-hit h e = rw (drop-cons (take c l) i 0 h, taken-at h, eq-eqb _ _ e)
+
+  pub find-miss : i < length (take c l) → (getD l i 0 ≡ n → ⊥) → findIn i (drop i (take c l)) n ≡ findIn (i + 1) (drop (i + 1) (take c l)) n
+  unfolding findIn
+  find-miss h e = rw (drop-cons (take c l) i 0 h, taken-at h, ne-eqb _ _ e, add-one)
+
+  pub find-end : length (take c l) ≤ i → findIn i (drop i (take c l)) n ≡ Nothing
+  unfolding findIn
+  find-end h = rw (drop-of-length-le (take c l) h)
+
+-- cut: one line
+wipe-step : (k i : ℕ) (l : List ℕ) → 0 < k → wipe k i l ≡ wipe (k - 1) (i + 1) (set l i 0)
+unfolding wipe
+wipe-step zero i l h = absurd (omega arith)
+wipe-step (suc k) i l h = rw sub-one
+
+pub wipe-more : (n i : ℕ) (l : List ℕ) → i < n → wipe (n - i) i l ≡ wipe (n - (i + 1)) (i + 1) (set l i 0)
+wipe-more n i l h = rw (sub-add-eq, wipe-step (n - i) i l (omega arith))
+
+pub wipe-end : (n i : ℕ) (l : List ℕ) → n ≤ i → wipe (n - i) i l ≡ l
+unfolding wipe
+wipe-end n i l h = rw sub-eq-zero-of-le
+
+-- soundness: one line of those that hold terms, one of those past them
+lines-step : (k i : ℕ) (l : List ℕ) → 0 < k → linesFrom k i l ≡ pick (lineSound l i) (linesFrom (k - 1) (i + 1) l) false
+unfolding linesFrom
+lines-step zero i l h = absurd (omega arith)
+lines-step (suc k) i l h = rw sub-one
+
+pub lines-more : (n i : ℕ) (l : List ℕ) → i < n → linesFrom (n - i) i l ≡ pick (lineSound l i) (linesFrom (n - (i + 1)) (i + 1) l) false
+lines-more n i l h = rw (sub-add-eq, lines-step (n - i) i l (omega arith))
+
+pub lines-end : (n i : ℕ) (l : List ℕ) → n ≤ i → linesFrom (n - i) i l ≡ true
+unfolding linesFrom
+lines-end n i l h = rw sub-eq-zero-of-le
+
+pub zero-more : (l : List ℕ) (i : ℕ) → i < length l → allZero (drop i l) ≡ pick (eqb (getD l i 0) 0) (allZero (drop (i + 1) l)) false
+unfolding allZero
+zero-more l i h = rw (add-one, drop-cons l i 0 h)
+
+pub zero-end : (l : List ℕ) (i : ℕ) → length l ≤ i → allZero (drop i l) ≡ true
+unfolding allZero
+zero-end l i h = rw (drop-of-length-le l h)
+
+-- one step down a term, with room for it and without
+pub fits-zero : (d : ℕ) (l vs : List ℕ) (o i : ℕ) → d ≡ 0 → fitsWithin d l vs o i ≡ false
+unfolding fitsWithin
+fits-zero d l vs o i e = rw e
+
+pub fits-step : (d : ℕ) (l vs : List ℕ) (o i : ℕ) → (d ≡ 0 → ⊥) → fitsWithin d l vs o i ≡ fitsBy (planAt l vs o i) l d (λ j. fitsWithin (d - 1) l vs o j)
+unfolding fitsWithin
+fits-step zero l vs o i f = absurd (f refl)
+fits-step (suc d) l vs o i f = rw sub-one
+
+pub subst-zero : (d : ℕ) (l : List ℕ) (c : ℕ) (vs : List ℕ) (o i : ℕ) → d ≡ 0 → substIn d l c vs o i ≡ held (subbed Deep c) l
+unfolding substIn
+subst-zero d l c vs o i e = rw e
+
+pub subst-step : (d : ℕ) (l : List ℕ) (c : ℕ) (vs : List ℕ) (o i : ℕ) → (d ≡ 0 → ⊥)
+    → substIn d l c vs o i ≡ walkBy (planAt l vs o i) (λ m e j. substIn (d - 1) m e vs o j) l c i
+unfolding substIn
+subst-step zero l c vs o i f = absurd (f refl)
+subst-step (suc d) l c vs o i f = rw sub-one

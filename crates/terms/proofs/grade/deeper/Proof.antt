@@ -1,0 +1,16 @@
+-- `terms::grade::deeper` meets its contract: the one test of the definition.
+use Rattle.terms.specs.Grade.{deeperOf}
+use Rattle.terms.proofs.Laws.{tests}
+use Rattle.terms.proofs.grade.deeper.Statement.{statement}
+use Rattle.terms.proofs.grade.deeper.Tie as tie
+
+returns : tie.Need-returns
+unfolding deeperOf
+returns c = search tests
+
+returns-2 : tie.Need-returns-2
+unfolding deeperOf
+returns-2 c = search tests
+
+pub deeper-spec : {M : Type 1} → statement M
+deeper-spec = tie.close (tie.spec returns returns-2)

@@ -1,0 +1,93 @@
+-- `terms::table::add` meets its contract: too deep, listed, new or full: one return each, in the order of the
+-- definition.
+use borrow.Author.Tests.{lt-ltb, le-ltb}
+use borrow.Author.Needs.{needs}
+use Rattle.terms.specs.Table.{addTo}
+use Rattle.terms.proofs.table.add.Statement.{statement}
+use Rattle.terms.proofs.table.add.Tie as tie
+
+grade-of-requires : tie.Need-grade-of-requires
+grade-of-requires c κs = search needs
+
+returns : tie.Need-returns
+unfolding addTo
+returns c = rw (← (c .before .before .grade-of .ensures), lt-ltb _ _ (c .if1 .taken))
+
+pack-requires : tie.Need-pack-requires
+pack-requires c κs = search needs
+
+find-line-requires : tie.Need-find-line-requires
+find-line-requires c κs = search needs
+
+enum-known-f : tie.Need-enum-known-f
+enum-known-f c = search needs
+
+enum-told : tie.Need-enum-told
+enum-told c = search needs
+
+add-next : tie.Need-add-next
+add-next c = search needs
+
+mul-t : tie.Need-mul-t
+mul-t c = search needs
+
+element-write-t : tie.Need-element-write-t
+element-write-t c = search needs
+
+returns-2 : tie.Need-returns-2
+unfolding addTo
+returns-2 c =
+    let p3 = c .before .before .before in let p5 = p3 .before .before in let p6 = p5 .before in
+    let p8 = p6 .before .before in
+    rw (
+      ← (p8 .grade-of .ensures),
+      le-ltb _ _ (p6 .if1 .left),
+      ← (p5 .pack .ensures),
+      ← (p3 .find-line .ensures),
+      c .before .f .given .1,
+    )
+
+returns-3 : tie.Need-returns-3
+unfolding addTo
+returns-3 c =
+    let p3 = c .before .before .before in let p5 = p3 .before .before in let p6 = p5 .before in
+    let p8 = p6 .before .before in
+    rw (
+      ← (p8 .grade-of .ensures),
+      le-ltb _ _ (p6 .if1 .left),
+      ← (p5 .pack .ensures),
+      ← (p3 .find-line .ensures),
+      c .before .enum-told .given .1,
+      lt-ltb _ _ (c .if2 .taken),
+    )
+
+returns-4 : tie.Need-returns-4
+unfolding addTo
+returns-4 c =
+    let p3 = c .before .before .before in let p5 = p3 .before .before in let p6 = p5 .before in
+    let p8 = p6 .before .before in
+    rw (
+      ← (p8 .grade-of .ensures),
+      le-ltb _ _ (p6 .if1 .left),
+      ← (p5 .pack .ensures),
+      ← (p3 .find-line .ensures),
+      c .before .enum-told .given .1,
+      le-ltb _ _ (c .if2 .left),
+    )
+
+pub add-spec : {M : Type 1} → statement M
+add-spec =
+    tie.close
+    (tie.spec
+    grade-of-requires
+    returns
+    pack-requires
+    find-line-requires
+    enum-known-f
+    enum-told
+    add-next
+    mul-t
+    element-write-t
+    returns-2
+    returns-3
+    returns-4)

@@ -1,0 +1,64 @@
+// A term one above its parts: a leaf has depth 1, another term one more than its deepest part; a term without
+// variables is ground.
+use crate::line::Grade;
+use crate::line::depth_in;
+use crate::line::ground_in;
+use crate::line::line_at;
+use crate::term::Shape;
+use crate::term::Term;
+use crate::term::both;
+use crate::term::shape_of;
+ghost use mathlib.Core.Path.{_≡_};
+ghost use Rattle.terms.specs.Grade.{gradeOf, aboveLine, aboveBoth, deeperOf};
+
+pub fn grade_of(t: &[u64; 512], x: Term) -> Grade
+    ensures { λ r. ⌜ r ≡ gradeOf (now (t .entry)) x ⌝ }
+{
+    let s = shape_of(x.kind);
+    match s {
+        Shape::Bare => Grade {
+            depth: 1,
+            ground: true,
+        },
+        Shape::Number => Grade {
+            depth: 1,
+            ground: true,
+        },
+        Shape::Variable => Grade {
+            depth: 1,
+            ground: false,
+        },
+        Shape::Sealed => above(line_at(t, x.a)),
+        Shape::Hashed => above(line_at(t, x.a)),
+        Shape::Applied => above(line_at(t, x.b)),
+        Shape::Joined => above_both(line_at(t, x.a), line_at(t, x.b)),
+        Shape::Unknown => Grade {
+            depth: 1,
+            ground: true,
+        },
+    }
+}
+
+fn above(n: u64) -> Grade
+    ensures { λ r. ⌜ r ≡ aboveLine n ⌝ }
+{
+    Grade {
+        depth: depth_in(n) as u16 + 1,
+        ground: ground_in(n),
+    }
+}
+
+fn above_both(m: u64, n: u64) -> Grade
+    ensures { λ r. ⌜ r ≡ aboveBoth m n ⌝ }
+{
+    Grade {
+        depth: deeper(depth_in(m), depth_in(n)) as u16 + 1,
+        ground: both(ground_in(m), ground_in(n)),
+    }
+}
+
+fn deeper(m: u8, n: u8) -> u8
+    ensures { λ r. ⌜ r ≡ deeperOf m n ⌝ }
+{
+    if m < n { n } else { m }
+}

@@ -1,0 +1,326 @@
+// A thread's values put for variables, down the parts of a term. Variable a of the thread stands at place base + a of
+// the lent values. Asking how deep the result would be enters nothing; substituting enters new terms in the order
+// first part, second part, whole.
+use crate::line::depth_in;
+use crate::line::ground_in;
+use crate::line::line_at;
+use crate::line::term_in;
+use crate::table::Added;
+use crate::table::Outcome;
+use crate::table::add;
+use crate::term::Shape;
+use crate::term::Term;
+use crate::term::shape_of;
+ghost use mathlib.Core.Path.{_≡_};
+ghost use Prim.Native.Nat.{_+_};
+ghost use lib.ListN.{getD};
+ghost use Rattle.terms.specs.Base.{held};
+ghost use Rattle.terms.specs.Subst.{planAt, fitsWithin, enteredIn, withFirst, withSecond, withBoth, secondOperand, substIn, takeOperands};
+
+// What is to be done at a label: keep a label, or go down its parts.
+pub enum Plan {
+    Keep(u16),
+    First(u16),
+    Second(u16),
+    Both(u16, u16),
+}
+
+// A label, or why there is none.
+pub enum Got {
+    Label(u16),
+    Deep,
+    Full,
+}
+
+pub struct Subbed {
+    pub got: Got,
+    pub count: u16,
+}
+
+// Both operands of an action.
+pub enum Taken {
+    Labels(u16, u16),
+    Deep,
+    Full,
+}
+
+pub struct Operands {
+    pub taken: Taken,
+    pub count: u16,
+}
+
+// The value at base + a, 0 where there is none.
+fn value_at(values: &[u16], base: u16, a: u16) -> u16
+    ensures { λ r. ⌜ r ≡ getD (now (values .entry)) (base + a) 0 ⌝ }
+{
+    let i = base as usize + a as usize;
+    if i < values.len() { values[i] } else { 0 }
+}
+
+// A ground term is its own substitution, so its parts are not walked.
+pub fn plan_at(t: &[u64; 512], values: &[u16], base: u16, label: u16) -> Plan
+    ensures { λ r. ⌜ r ≡ planAt (now (t .entry)) (now (values .entry)) base label ⌝ }
+{
+    let n = line_at(t, label);
+    if ground_in(n) {
+        return Plan::Keep(label);
+    }
+    let x = term_in(n);
+    let s = shape_of(x.kind);
+    match s {
+        Shape::Bare => Plan::Keep(label),
+        Shape::Number => Plan::Keep(label),
+        Shape::Variable => Plan::Keep(value_at(values, base, x.a)),
+        Shape::Sealed => Plan::First(x.a),
+        Shape::Hashed => Plan::First(x.a),
+        Shape::Applied => Plan::Second(x.b),
+        Shape::Joined => Plan::Both(x.a, x.b),
+        Shape::Unknown => Plan::Keep(label),
+    }
+}
+
+// The result would have depth room at most.
+pub fn fits_within(t: &[u64; 512], values: &[u16], base: u16, label: u16, room: u8) -> bool
+    ensures { λ r. ⌜ r ≡ fitsWithin room (now (t .entry)) (now (values .entry)) base label ⌝ }
+{
+    if room == 0 {
+        return false;
+    }
+    let p = plan_at(t, values, base, label);
+    match p {
+        Plan::Keep(l) => depth_in(line_at(t, l)) <= room,
+        Plan::First(a) => fits_within(t, values, base, a, room - 1),
+        Plan::Second(b) => fits_within(t, values, base, b, room - 1),
+        Plan::Both(a, b) => {
+            if fits_within(t, values, base, a, room - 1) {
+                fits_within(t, values, base, b, room - 1)
+            } else {
+                false
+            }
+        }
+    }
+}
+
+// The substituted term, entered where it is new.
+pub fn subst(
+    t: &mut [u64; 512],
+    count: u16,
+    values: &[u16],
+    base: u16,
+    label: u16,
+    left: u8,
+) -> Subbed
+    ensures { λ r. ⌜ held r (now (t .exit)) ≡ substIn left (now (t .entry)) count (now (values .entry)) base label ⌝ }
+{
+    if left == 0 {
+        return Subbed {
+            got: Got::Deep,
+            count,
+        };
+    }
+    let p = plan_at(t, values, base, label);
+    match p {
+        Plan::Keep(l) => Subbed {
+            got: Got::Label(l),
+            count,
+        },
+        Plan::First(a) => {
+            let r = subst(t, count, values, base, a, left - 1);
+            with_first(t, label, r)
+        }
+        Plan::Second(b) => {
+            let r = subst(t, count, values, base, b, left - 1);
+            with_second(t, label, r)
+        }
+        Plan::Both(a, b) => {
+            let r = subst(t, count, values, base, a, left - 1);
+            let g = r.got;
+            match g {
+                Got::Label(i) => {
+                    let q = subst(t, r.count, values, base, b, left - 1);
+                    with_both(t, label, i, q)
+                }
+                Got::Deep => Subbed {
+                    got: Got::Deep,
+                    count: r.count,
+                },
+                Got::Full => Subbed {
+                    got: Got::Full,
+                    count: r.count,
+                },
+            }
+        }
+    }
+}
+
+// The term at label with another first part.
+fn with_first(t: &mut [u64; 512], label: u16, r: Subbed) -> Subbed
+    ensures { λ s. ⌜ held s (now (t .exit)) ≡ withFirst (now (t .entry)) label r ⌝ }
+{
+    let g = r.got;
+    match g {
+        Got::Label(i) => {
+            let x = term_in(line_at(t, label));
+            entered(
+                t,
+                r.count,
+                Term {
+                    kind: x.kind,
+                    a: i,
+                    b: x.b,
+                },
+            )
+        }
+        Got::Deep => Subbed {
+            got: Got::Deep,
+            count: r.count,
+        },
+        Got::Full => Subbed {
+            got: Got::Full,
+            count: r.count,
+        },
+    }
+}
+
+fn with_second(t: &mut [u64; 512], label: u16, r: Subbed) -> Subbed
+    ensures { λ s. ⌜ held s (now (t .exit)) ≡ withSecond (now (t .entry)) label r ⌝ }
+{
+    let g = r.got;
+    match g {
+        Got::Label(i) => {
+            let x = term_in(line_at(t, label));
+            entered(
+                t,
+                r.count,
+                Term {
+                    kind: x.kind,
+                    a: x.a,
+                    b: i,
+                },
+            )
+        }
+        Got::Deep => Subbed {
+            got: Got::Deep,
+            count: r.count,
+        },
+        Got::Full => Subbed {
+            got: Got::Full,
+            count: r.count,
+        },
+    }
+}
+
+fn with_both(t: &mut [u64; 512], label: u16, first: u16, r: Subbed) -> Subbed
+    ensures { λ s. ⌜ held s (now (t .exit)) ≡ withBoth (now (t .entry)) label first r ⌝ }
+{
+    let g = r.got;
+    match g {
+        Got::Label(i) => {
+            let x = term_in(line_at(t, label));
+            entered(
+                t,
+                r.count,
+                Term {
+                    kind: x.kind,
+                    a: first,
+                    b: i,
+                },
+            )
+        }
+        Got::Deep => Subbed {
+            got: Got::Deep,
+            count: r.count,
+        },
+        Got::Full => Subbed {
+            got: Got::Full,
+            count: r.count,
+        },
+    }
+}
+
+// A term listed, old or new, as a substitution's answer.
+fn entered(t: &mut [u64; 512], count: u16, x: Term) -> Subbed
+    ensures { λ r. ⌜ held r (now (t .exit)) ≡ enteredIn (now (t .entry)) count x ⌝ }
+{
+    let r = add(t, count, x);
+    let o = r.outcome;
+    match o {
+        Outcome::Listed(i) => Subbed {
+            got: Got::Label(i),
+            count: r.count,
+        },
+        Outcome::New(i) => Subbed {
+            got: Got::Label(i),
+            count: r.count,
+        },
+        Outcome::Deep => Subbed {
+            got: Got::Deep,
+            count: r.count,
+        },
+        Outcome::Full => Subbed {
+            got: Got::Full,
+            count: r.count,
+        },
+    }
+}
+
+// Both operands of an action: first the depths of both, then the room for both.
+pub fn take_operands(
+    t: &mut [u64; 512],
+    count: u16,
+    values: &[u16],
+    base: u16,
+    x: u16,
+    y: u16,
+) -> Operands
+    ensures { λ r. ⌜ held r (now (t .exit)) ≡ takeOperands (now (t .entry)) count (now (values .entry)) base x y ⌝ }
+{
+    if !fits_within(t, values, base, x, 16) {
+        return Operands {
+            taken: Taken::Deep,
+            count,
+        };
+    }
+    if !fits_within(t, values, base, y, 16) {
+        return Operands {
+            taken: Taken::Deep,
+            count,
+        };
+    }
+    let p = subst(t, count, values, base, x, 16);
+    let g = p.got;
+    match g {
+        Got::Label(i) => {
+            let q = subst(t, p.count, values, base, y, 16);
+            second_operand(i, q)
+        }
+        Got::Deep => Operands {
+            taken: Taken::Deep,
+            count: p.count,
+        },
+        Got::Full => Operands {
+            taken: Taken::Full,
+            count: p.count,
+        },
+    }
+}
+
+fn second_operand(first: u16, q: Subbed) -> Operands
+    ensures { λ r. ⌜ r ≡ secondOperand first q ⌝ }
+{
+    let g = q.got;
+    match g {
+        Got::Label(i) => Operands {
+            taken: Taken::Labels(first, i),
+            count: q.count,
+        },
+        Got::Deep => Operands {
+            taken: Taken::Deep,
+            count: q.count,
+        },
+        Got::Full => Operands {
+            taken: Taken::Full,
+            count: q.count,
+        },
+    }
+}
