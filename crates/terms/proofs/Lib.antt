@@ -9,4 +9,6 @@ pub mod Add
 pub mod Enter
 pub mod Depth
 pub mod Substs
+pub mod Room
+pub mod Only
 pub mod Facts

@@ -1,0 +1,19 @@
+-- The search theorem over any machine. To cite: Claims (S2 to S5), Pass, Placed, Fit, Unique (S2), Member, Rises, Only (what the list
+-- of all bad schedules is, and that it is the only such list), Array, Laws and Loop (for a program), Example (a machine worked through).
+pub mod Lists
+pub mod Codes
+pub mod Turn
+pub mod Pass
+pub mod Fit
+pub mod Placed
+pub mod Gather
+pub mod Member
+pub mod Rises
+pub mod Same
+pub mod Claims
+pub mod Only
+pub mod Laws
+pub mod Array
+pub mod Loop
+pub mod Unique
+pub mod Example

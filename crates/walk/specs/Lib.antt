@@ -1,0 +1,15 @@
+-- The search of document 01 over ANY machine. What a reader must believe comes first: Machine, Bad, Order, Reply, Gathers.
+-- Then what the theorems speak of: Trail, Place, Walk, Passed, Answers, Follows; and Array, the walk over a program's places.
+pub mod Base
+pub mod Order
+pub mod Machine
+pub mod Bad
+pub mod Reply
+pub mod Gathers
+pub mod Trail
+pub mod Place
+pub mod Walk
+pub mod Passed
+pub mod Answers
+pub mod Follows
+pub mod Array

@@ -1,0 +1,1 @@
+// Theory only: the search theorem over any machine. There is no function here.
