@@ -1,0 +1,3 @@
+-- What the contracts of this crate cite, beside document 01, section 'Programs, machines, threads'.
+pub mod Records
+pub mod Fields
