@@ -10,11 +10,12 @@ use lib.ListN.{length, getD, take, set, length-set}
 use lib.Seq.{take-set-le, getD-take, getD-set-same, getD-set-other, getD-at, length-take-le}
 use lib.Dec.{ltb, eqb}
 use borrow.Author.Tests.{ltb-true, ltb-false, eqb-true, eqb-false}
+use Rattle.terms.proofs.Laws.{free-none, free-some}
 use Rattle.terms.specs.Base.{pick, held}
 use Rattle.terms.specs.Term.{shapeOf, inLimits, partsBy, partsBelow}
 use Rattle.terms.specs.Line.{packed, termIn, lineAt, termAt}
 use Rattle.terms.specs.Grade.{aboveLine, aboveBoth, gradeBy, gradeOf}
-use Rattle.terms.specs.Table.{findIn, findLine, added, addBy, addTo}
+use Rattle.terms.specs.Table.{freeOf, findIn, findLine, added, addBy, addTo}
 use Rattle.terms.specs.Sound.{Sound}
 use Rattle.terms.specs.Tree.{Tree, nought, deepness, member}
 use Rattle.terms.specs.Meaning.{build, trees, treeOf, means, Den}
@@ -248,20 +249,20 @@ line-den {l} {c} {i} S p x F r =
     record { below = r .below; is = tree-at S p i (r .below) ∙ ap (means l c) t }
 
 adds-room : {l : List ℕ} {c : ℕ} → Sound l c → length l ≡ 512 → (x : Term) → Fit x c → gradeOf l x .depth ≤ 16 → ((i : ℕ) → i < c → lineAt l i ≡ newLine l x → ⊥)
-    → (t : Bool) → ltb c 512 ≡ t → Adds l c x (pick t (held (added (O.New c) (c + 1)) (pushed l c x)) (held (added O.Full c) l))
-adds-room {l} {c} S p x F low none true e =
-    let h = ltb-true c 512 e in
+    → (t : Bool) → eqb (freeOf c) 0 ≡ t → Adds l c x (pick t (held (added O.Full c) l) (held (added (O.New c) (c + 1)) (pushed l c x)))
+adds-room {l} {c} S p x F low none false e =
+    let h = free-some c e in
     new (omega (arith, fit-depth S p x (F .parts))) (not-member S p x F none) h
     (grows-pushed l c S p x F low h none) (den-pushed l c S p x F low h none) (trees-pushed l c S p x F low h none)
-adds-room {l} {c} S p x F low none false e =
-    full (omega (arith, fit-depth S p x (F .parts))) (not-member S p x F none) (omega (arith, ltb-false c 512 e, S .room))
+adds-room {l} {c} S p x F low none true e =
+    full (omega (arith, fit-depth S p x (F .parts))) (not-member S p x F none) (omega (arith, free-none c e, S .room))
 
 adds-found : {l : List ℕ} {c : ℕ} → Sound l c → length l ≡ 512 → (x : Term) → Fit x c → gradeOf l x .depth ≤ 16
     → (f : Found) → findLine l c (newLine l x) ≡ f → Adds l c x (addBy f l c (newLine l x))
 adds-found {l} {c} S p x F low (At i) e =
     listed (omega (arith, fit-depth S p x (F .parts))) (line-den S p x F (line-hit l c (newLine l x) i (omega (arith, S .room, p)) e))
 adds-found {l} {c} S p x F low Nothing e =
-    adds-room S p x F low (line-miss l c (newLine l x) (omega (arith, S .room, p)) e) (ltb c 512) refl
+    adds-room S p x F low (line-miss l c (newLine l x) (omega (arith, S .room, p)) e) (eqb (freeOf c) 0) refl
 
 adds-by : {l : List ℕ} {c : ℕ} → Sound l c → length l ≡ 512 → (x : Term) → Fit x c → (t : Bool) → ltb 16 (gradeOf l x .depth) ≡ t
     → Adds l c x (pick t (held (added O.Deep c) l) (addBy (findLine l c (newLine l x)) l c (newLine l x)))

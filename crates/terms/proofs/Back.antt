@@ -6,13 +6,14 @@ use mathlib.Core.Bool.{Bool, true, false}
 use mathlib.Core.List.{List, [], _∷_}
 use native.Mathlib.Omega.{arith}
 use lib.ListN.{length, set, take, length-set, length-take}
-use lib.Dec.{ltb}
+use lib.Dec.{ltb, eqb}
 use lib.Seq.{getD-set-other, getD-take, ext-getD}
 use borrow.Author.Tests.{ltb-true, ltb-false}
+use Rattle.terms.proofs.Laws.{free-some}
 use Rattle.terms.specs.Base.{pick, Held, held}
 use Rattle.terms.specs.Line.{lineAt, packed}
 use Rattle.terms.specs.Grade.{gradeOf}
-use Rattle.terms.specs.Table.{usedOf, wipe, cutTo, findLine, added, addBy, addTo}
+use Rattle.terms.specs.Table.{usedOf, freeOf, wipe, cutTo, findLine, added, addBy, addTo}
 use Rattle.terms.specs.Subst.{planAt, fitsWithin, enteredIn, firstBy, withFirst, secondBy, withSecond, bothBy, withBoth, thenSecond, walkBy, substIn, operands, takenBy, secondOperand, afterFirst, takeBy, takeOperands}
 use Rattle.terms.specs.declared.term.Term.{Term}
 use Rattle.terms.specs.declared.table.Found.{Found}
@@ -128,14 +129,14 @@ set-grows l c n h = record {
   past = λ i s. getD-set-other l c i n 0 (omega arith);
 }
 
-room-grows : (b : Bool) (l : List ℕ) (c n : ℕ) → ltb c 512 ≡ b
-    → Grown l c (pick b (held (added (O.New c) (c + 1)) (set l c n)) (held (added O.Full c) l) .table) (pick b (held (added (O.New c) (c + 1)) (set l c n)) (held (added O.Full c) l) .out .count)
-room-grows true l c n e = set-grows l c n (ltb-true c 512 e)
-room-grows false l c n e = grown-same
+room-grows : (b : Bool) (l : List ℕ) (c n : ℕ) → eqb (freeOf c) 0 ≡ b
+    → Grown l c (pick b (held (added O.Full c) l) (held (added (O.New c) (c + 1)) (set l c n)) .table) (pick b (held (added O.Full c) l) (held (added (O.New c) (c + 1)) (set l c n)) .out .count)
+room-grows true l c n e = grown-same
+room-grows false l c n e = set-grows l c n (free-some c e)
 
 found-grows : (f : Found) (l : List ℕ) (c n : ℕ) → Grown l c (addBy f l c n .table) (addBy f l c n .out .count)
 found-grows (At i) l c n = grown-same
-found-grows Nothing l c n = room-grows (ltb c 512) l c n refl
+found-grows Nothing l c n = room-grows (eqb (freeOf c) 0) l c n refl
 
 deep-grows : (b : Bool) (f : Found) (l : List ℕ) (c n : ℕ)
     → Grown l c (pick b (held (added O.Deep c) l) (addBy f l c n) .table) (pick b (held (added O.Deep c) l) (addBy f l c n) .out .count)

@@ -9,7 +9,7 @@ use Rattle.terms.specs.Base.{Held, held}
 use Rattle.terms.specs.Term.{term, shapeOf, inLimits, partsBelow}
 use Rattle.terms.specs.Line.{grade, packed, termIn, depthIn, groundIn}
 use Rattle.terms.specs.Grade.{gradeOf, aboveLine, aboveBoth, deeperOf}
-use Rattle.terms.specs.Table.{fixedLine, freshTable, added, addTo, findIn, findLine}
+use Rattle.terms.specs.Table.{fixedLine, freshTable, added, addTo, findIn, findLine, freeOf}
 use Rattle.terms.specs.Sound.{fixedFirst, lineSound, linesFrom, allZero, soundTest}
 use Rattle.terms.specs.Tree.{Tree, leaf, sealed, applied, joined, nought, sinit, seq}
 use Rattle.terms.specs.declared.term.Term.{Term}
@@ -25,11 +25,11 @@ start = held (added (New 2) 3) (freshTable .lines)
 
 -- "pair of 0 and sinit against sinit and 0 (two labels)"
 pair-of-0-and-sinit : then start (term 9 0 1) .out ≡ added (New 3) 4
-unfolding start then addTo gradeOf shapeOf aboveBoth aboveLine deeperOf packed depthIn groundIn findLine findIn freshTable fixedLine
+unfolding start then addTo gradeOf shapeOf aboveBoth aboveLine deeperOf packed depthIn groundIn findLine findIn freshTable fixedLine freeOf
 pair-of-0-and-sinit = refl
 
 pair-of-sinit-and-0 : then (then start (term 9 0 1)) (term 9 1 0) .out ≡ added (New 4) 5
-unfolding start then addTo gradeOf shapeOf aboveBoth aboveLine deeperOf packed depthIn groundIn findLine findIn freshTable fixedLine
+unfolding start then addTo gradeOf shapeOf aboveBoth aboveLine deeperOf packed depthIn groundIn findLine findIn freshTable fixedLine freeOf
 pair-of-sinit-and-0 = refl
 
 pairs-differ : joined 9 nought sinit ≡ joined 9 sinit nought → ⊥
@@ -40,11 +40,11 @@ fives : Held Added
 fives = then (then (then (then start (term 0 5 0)) (term 0 6 0)) (term 14 1 3)) (term 14 5 4)
 
 five-then-six : fives .out ≡ added (New 6) 7
-unfolding fives start then addTo gradeOf shapeOf aboveBoth aboveLine deeperOf packed depthIn groundIn findLine findIn freshTable fixedLine
+unfolding fives start then addTo gradeOf shapeOf aboveBoth aboveLine deeperOf packed depthIn groundIn findLine findIn freshTable fixedLine freeOf
 five-then-six = refl
 
 six-then-five : then (then fives (term 14 1 4)) (term 14 7 3) .out ≡ added (New 8) 9
-unfolding fives start then addTo gradeOf shapeOf aboveBoth aboveLine deeperOf packed depthIn groundIn findLine findIn freshTable fixedLine
+unfolding fives start then addTo gradeOf shapeOf aboveBoth aboveLine deeperOf packed depthIn groundIn findLine findIn freshTable fixedLine freeOf
 six-then-five = refl
 
 seqs-differ : seq sinit (leaf 0 5 ∷ leaf 0 6 ∷ []) ≡ seq sinit (leaf 0 6 ∷ leaf 0 5 ∷ []) → ⊥
@@ -64,9 +64,9 @@ unfolding fullTable keys fixedLine soundTest fixedFirst linesFrom lineSound allZ
 full-is-sound = refl
 
 hash-in-full-found : addTo fullTable 512 (term 13 0 0) .out ≡ added (Listed 511) 512
-unfolding fullTable keys fixedLine addTo gradeOf shapeOf aboveBoth aboveLine deeperOf packed depthIn groundIn findLine findIn
+unfolding fullTable keys fixedLine addTo gradeOf shapeOf aboveBoth aboveLine deeperOf packed depthIn groundIn findLine findIn freeOf
 hash-in-full-found = refl
 
 new-hash-in-full : addTo fullTable 512 (term 13 1 0) .out ≡ added Full 512
-unfolding fullTable keys fixedLine addTo gradeOf shapeOf aboveBoth aboveLine deeperOf packed depthIn groundIn findLine findIn
+unfolding fullTable keys fixedLine addTo gradeOf shapeOf aboveBoth aboveLine deeperOf packed depthIn groundIn findLine findIn freeOf
 new-hash-in-full = refl

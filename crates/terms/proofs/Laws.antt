@@ -10,9 +10,9 @@ use native.Mathlib.Omega.{arith}
 use lib.ListN.{length, getD, take, drop, set, length-take, drop-of-length-le}
 use lib.Seq.{drop-cons, getD-take}
 use lib.Dec.{ltb, eqb}
-use borrow.Author.Tests.{ltb-true, ltb-false, le-leb, lt-leb, lt-ltb, le-ltb, eq-eqb, ne-eqb}
+use borrow.Author.Tests.{ltb-true, ltb-false, eqb-true, eqb-false, le-leb, lt-leb, lt-ltb, le-ltb, eq-eqb, ne-eqb}
 use Rattle.terms.specs.Base.{pick, held}
-use Rattle.terms.specs.Table.{usedOf, findIn, wipe}
+use Rattle.terms.specs.Table.{usedOf, freeOf, findIn, wipe}
 use Rattle.terms.specs.Subst.{planAt, fitsBy, fitsWithin, subbed, walkBy, substIn}
 use Rattle.terms.specs.Sound.{lineSound, linesFrom, allZero}
 use Rattle.terms.specs.declared.table.Found.the-variants.{At, Nothing}
@@ -20,6 +20,25 @@ use Rattle.terms.specs.declared.subst.Got.the-variants.{Deep}
 
 -- a test on numbers, as the branch tells it
 pub ruleset tests = (le-leb, lt-leb, lt-ltb, le-ltb, eq-eqb, ne-eqb)
+
+free-by : (b : Bool) (c : ℕ) → ltb c 512 ≡ b → pick b (512 - c) 0 ≡ 512 - c
+free-by true c e = refl
+free-by false c e = omega (arith, ltb-false c 512 e)
+
+-- the free entries, for any count
+pub free-is : (c : ℕ) → freeOf c ≡ 512 - c
+unfolding freeOf
+free-is c = free-by (ltb c 512) c refl
+
+-- no entry is free, and some entry is
+pub free-none : (c : ℕ) → eqb (freeOf c) 0 ≡ true → 512 ≤ c
+free-none c e = omega (arith, free-is c, eqb-true (freeOf c) 0 e)
+
+pub free-some : (c : ℕ) → eqb (freeOf c) 0 ≡ false → c < 512
+free-some c e = some (rw free-is at (eqb-false (freeOf c) 0 e))
+  where
+    some : (512 - c ≡ 0 → ⊥) → c < 512
+    some h = omega arith
 
 -- the lines that a count takes of a table
 used-by : (b : Bool) (c n : ℕ) → ltb c 512 ≡ b → n ≡ 512 → min c n ≡ pick b c 512

@@ -40,6 +40,13 @@ lineAt l i = getD l i 0
 abbrev pub termAt : List ℕ → ℕ → Term
 termAt l i = termIn (lineAt l i)
 
+-- its depth, and whether it is ground
+abbrev pub depthAt : List ℕ → ℕ → ℕ
+depthAt l i = depthIn (lineAt l i)
+
+abbrev pub groundAt : List ℕ → ℕ → Bool
+groundAt l i = groundIn (lineAt l i)
+
 -- what the type of a lent table says of it
 pub record Known (l : List ℕ) : Type 0 where
   pub long : length l ≡ 512

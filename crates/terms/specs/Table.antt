@@ -1,5 +1,5 @@
 -- The table of terms: a list of lines of which the first `count` hold terms. A label is a line's place.
-use Prim.Native.Nat.{ℕ, zero, suc, _+_, _-_, _≤_}
+use Prim.Native.Nat.{ℕ, zero, suc, _+_, _-_, _≤_, max}
 use mathlib.Core.Path.{_≡_}
 use mathlib.Core.Bool.{Bool, true, false}
 use mathlib.Core.List.{List, [], _∷_}
@@ -32,8 +32,13 @@ pub record Used (c r : ℕ) : Type 0 where
   pub is : r ≡ usedOf c
   pub small : r ≤ 512
 
+-- how many terms more the table can take: the one place where that is decided
 unfoldable pub freeOf : ℕ → ℕ
 freeOf c = pick (ltb c 512) (512 - c) 0
+
+pub record Free (c r : ℕ) : Type 0 where
+  pub is : r ≡ freeOf c
+  pub within : r + c ≤ max c 512
 
 -- the first line that is n, the list's own first line having label i
 unfoldable pub findIn : ℕ → List ℕ → ℕ → Found
@@ -55,7 +60,7 @@ added o c = record { outcome = o; count = c }
 -- the line n, which was looked for, is entered where it was not found and there is room
 abbrev pub addBy : Found → List ℕ → ℕ → ℕ → Held Added
 addBy (At i) l c n = held (added (Listed i) c) l
-addBy Nothing l c n = pick (ltb c 512) (held (added (New c) (c + 1)) (set l c n)) (held (added Full c) l)
+addBy Nothing l c n = pick (eqb (freeOf c) 0) (held (added Full c) l) (held (added (New c) (c + 1)) (set l c n))
 
 abbrev pub addGraded : Grade → List ℕ → ℕ → Term → Held Added
 addGraded g l c x = pick (ltb 16 (g .depth)) (held (added Deep c) l) (addBy (findLine l c (packed x g)) l c (packed x g))

@@ -3,7 +3,7 @@
 // lookup is one comparison a line and nothing is ever taken for something else.
 use crate::term::Term;
 ghost use mathlib.Core.Path.{_≡_};
-ghost use Rattle.terms.specs.Line.{Bit, Known, packed, termIn, depthIn, groundIn, lineAt};
+ghost use Rattle.terms.specs.Line.{Bit, Known, packed, termIn, depthIn, groundIn, lineAt, termAt, depthAt, groundAt};
 
 // The depth of a term, and whether it holds no variable.
 pub struct Grade {
@@ -66,4 +66,25 @@ pub fn line_at(t: &[u64; 512], label: u16) -> u64
     known(t);
     let i = label as usize;
     if i < 512 { t[i] } else { 0 }
+}
+
+// The term at a label.
+pub fn term_at(t: &[u64; 512], label: u16) -> Term
+    ensures { λ r. ⌜ r ≡ termAt (now (t .entry)) label ⌝ }
+{
+    term_in(line_at(t, label))
+}
+
+// The depth of the term at a label, 0 where there is none.
+pub fn depth_at(t: &[u64; 512], label: u16) -> u8
+    ensures { λ r. ⌜ r ≡ depthAt (now (t .entry)) label ⌝ }
+{
+    depth_in(line_at(t, label))
+}
+
+// The term at a label holds no variable.
+pub fn is_ground(t: &[u64; 512], label: u16) -> bool
+    ensures { λ r. ⌜ r ≡ groundAt (now (t .entry)) label ⌝ }
+{
+    ground_in(line_at(t, label))
 }

@@ -7,7 +7,7 @@ use crate::line::pack;
 use crate::term::Term;
 ghost use mathlib.Core.Path.{_≡_};
 ghost use Rattle.terms.specs.Base.{held};
-ghost use Rattle.terms.specs.Table.{fixedLine, freshTable, Used, freeOf, findLine, findTerm, addTo, cutTo};
+ghost use Rattle.terms.specs.Table.{fixedLine, freshTable, Used, Free, findLine, findTerm, addTo, cutTo};
 
 pub struct Table {
     pub lines: [u64; 512],
@@ -82,7 +82,7 @@ pub fn used(count: u16) -> u16
 
 // How many terms more the table can take.
 pub fn free_entries(count: u16) -> u16
-    ensures { λ r. ⌜ r ≡ freeOf count ⌝ }
+    ensures { λ r. ⌜ Free count r ⌝ }
 {
     if count < Table::TERMS {
         Table::TERMS - count
@@ -139,19 +139,19 @@ pub fn add(t: &mut [u64; 512], count: u16, x: Term) -> Added
             count,
         },
         Found::Nothing => {
-            if count < Table::TERMS {
-                let i = count as usize;
-                let next = count + 1;
-                t[i] = n;
-                Added {
-                    outcome: Outcome::New(count),
-                    count: next,
-                }
-            } else {
-                Added {
+            let free = free_entries(count);
+            if free == 0 {
+                return Added {
                     outcome: Outcome::Full,
                     count,
-                }
+                };
+            }
+            let i = count as usize;
+            let next = count + 1;
+            t[i] = n;
+            Added {
+                outcome: Outcome::New(count),
+                count: next,
             }
         }
     }

@@ -1,6 +1,5 @@
--- `terms::table::add` meets its contract: too deep, listed, new or full: one return each, in the order of the
--- definition.
-use borrow.Author.Tests.{lt-ltb, le-ltb}
+-- `terms::table::add` meets its contract: the depth, then the lookup, then the room, as `addTo` has them.
+use borrow.Author.Tests.{lt-ltb, le-ltb, eq-eqb, ne-eqb}
 use borrow.Author.Needs.{needs}
 use Rattle.terms.specs.Table.{addTo}
 use Rattle.terms.proofs.table.add.Statement.{statement}
@@ -25,6 +24,26 @@ enum-known-f c = search needs
 enum-told : tie.Need-enum-told
 enum-told c = search needs
 
+free-entries-requires : tie.Need-free-entries-requires
+free-entries-requires c κs = search needs
+
+returns-2 : tie.Need-returns-2
+unfolding addTo
+returns-2 c =
+    let p4 = c .before .before .before .before in
+    let p6 = p4 .before .before in
+    let p7 = p6 .before in
+    let p9 = p7 .before .before in
+    rw (
+      ← (p9 .grade-of .ensures),
+      le-ltb _ _ (p7 .if1 .left),
+      ← (p6 .pack .ensures),
+      ← (p4 .find-line .ensures),
+      c .before .before .enum-told .given .1,
+      ← (c .before .free-entries .ensures .is),
+      eq-eqb _ _ (c .if2 .taken),
+    )
+
 add-next : tie.Need-add-next
 add-next c = search needs
 
@@ -34,10 +53,12 @@ mul-t c = search needs
 element-write-t : tie.Need-element-write-t
 element-write-t c = search needs
 
-returns-2 : tie.Need-returns-2
+returns-3 : tie.Need-returns-3
 unfolding addTo
-returns-2 c =
-    let p3 = c .before .before .before in let p5 = p3 .before .before in let p6 = p5 .before in
+returns-3 c =
+    let p3 = c .before .before .before in
+    let p5 = p3 .before .before in
+    let p6 = p5 .before in
     let p8 = p6 .before .before in
     rw (
       ← (p8 .grade-of .ensures),
@@ -47,32 +68,21 @@ returns-2 c =
       c .before .f .given .1,
     )
 
-returns-3 : tie.Need-returns-3
-unfolding addTo
-returns-3 c =
-    let p3 = c .before .before .before in let p5 = p3 .before .before in let p6 = p5 .before in
-    let p8 = p6 .before .before in
-    rw (
-      ← (p8 .grade-of .ensures),
-      le-ltb _ _ (p6 .if1 .left),
-      ← (p5 .pack .ensures),
-      ← (p3 .find-line .ensures),
-      c .before .enum-told .given .1,
-      lt-ltb _ _ (c .if2 .taken),
-    )
-
 returns-4 : tie.Need-returns-4
 unfolding addTo
 returns-4 c =
-    let p3 = c .before .before .before in let p5 = p3 .before .before in let p6 = p5 .before in
-    let p8 = p6 .before .before in
+    let p4 = c .before .before .before .before in
+    let p6 = p4 .before .before in
+    let p7 = p6 .before in
+    let p9 = p7 .before .before in
     rw (
-      ← (p8 .grade-of .ensures),
-      le-ltb _ _ (p6 .if1 .left),
-      ← (p5 .pack .ensures),
-      ← (p3 .find-line .ensures),
-      c .before .enum-told .given .1,
-      le-ltb _ _ (c .if2 .left),
+      ← (p9 .grade-of .ensures),
+      le-ltb _ _ (p7 .if1 .left),
+      ← (p6 .pack .ensures),
+      ← (p4 .find-line .ensures),
+      c .before .before .enum-told .given .1,
+      ← (c .before .free-entries .ensures .is),
+      ne-eqb _ _ (c .if2 .left),
     )
 
 pub add-spec : {M : Type 1} → statement M
@@ -85,9 +95,10 @@ add-spec =
     find-line-requires
     enum-known-f
     enum-told
+    free-entries-requires
+    returns-2
     add-next
     mul-t
     element-write-t
-    returns-2
     returns-3
     returns-4)
