@@ -1,0 +1,23 @@
+-- `state::moves::with_lock` meets its contract: the range test of the definition.
+use borrow.Author.Needs.{needs}
+use borrow.Author.Tests.{le-ltb, lt-ltb}
+use Rattle.state.specs.Moves.{withLock}
+use Rattle.state.proofs.moves.with_lock.Statement.{statement}
+use Rattle.state.proofs.moves.with_lock.Tie as tie
+
+mul-out : tie.Need-mul-out
+mul-out c = search needs
+
+array-write-out : tie.Need-array-write-out
+array-write-out c = search needs
+
+returns : tie.Need-returns
+unfolding withLock
+returns c = rw (lt-ltb _ _ (c .if1 .taken))
+
+returns-2 : tie.Need-returns-2
+unfolding withLock
+returns-2 c = rw (le-ltb _ _ (c .if1 .left))
+
+pub with-lock-spec : {M : Type 1} → statement M
+with-lock-spec = tie.close (tie.spec mul-out array-write-out returns returns-2)

@@ -1,0 +1,65 @@
+-- The next code that refusals 1 to 7 let through, and how many numbers may be passed at sight.
+use Prim.Native.Nat.{ℕ, zero, suc, _+_, _-_, _/_, _%_, _<_, _≤_}
+use mathlib.Core.Bool.{Bool, true, false}
+use mathlib.Core.Path.{_≡_}
+use mathlib.Core.List.{List}
+use lib.Dec.{eqb, ltb}
+use Rattle.terms.specs.Base.{pick, also}
+use Rattle.state.specs.Slot.{slotAt}
+use Rattle.state.specs.Early.{Sight, sight, nextAction, earlyOf}
+use Rattle.state.specs.declared.slot.Slot.{Slot}
+use Rattle.state.specs.declared.control.Frame.{Frame}
+
+abbrev pub seekBy : Bool → ℕ → (ℕ → ℕ) → ℕ
+seekBy true c rest = c
+seekBy false c rest = rest (c + 1)
+
+-- n numbers from c on are asked
+unfoldable pub seekIn : Sight → ℕ → ℕ → ℕ
+seekIn g zero c = 164
+seekIn g (suc n) c = seekBy (eqb (earlyOf g c) 0) c (λ k. seekIn g n k)
+
+-- the first number from c on, below 164, that is let through; 164 where there is none
+unfoldable pub seekFrom : Sight → ℕ → ℕ
+seekFrom g c = seekIn g (164 - c) c
+
+-- r is the first from c on: every number passed is refused by 1 to 7, and the one given, below 164, is not
+pub record First (g : Sight) (c r : ℕ) : Type 0 where
+  pub refused : (k : ℕ) → c ≤ k → k < r → earlyOf g k ≡ 0 → ⊥
+  pub given : r < 164 → earlyOf g r ≡ 0
+  pub on : c ≤ 164 → c ≤ r
+  pub small : r ≤ 164
+
+-- what is looked at in a frame
+abbrev pub sightOf : Frame → List ℕ → List ℕ → ℕ → Sight
+sightOf f actions locations machines = sight (f .slots) (f .locks) (f .steps) actions locations machines
+
+-- the slot's thread stands before a send
+abbrev pub sendsBy : Slot → List ℕ → Bool
+sendsBy s actions = also (s .live) (eqb (nextAction actions s .op) 5)
+
+unfoldable pub sends : List ℕ → List ℕ → ℕ → Bool
+sends slots actions i = sendsBy (slotAt slots i) actions
+
+-- the rest of a row of hand-overs whose sender is empty or does not send; 0 where there is no such row
+unfoldable pub silentFrom : List ℕ → List ℕ → ℕ → ℕ
+silentFrom slots actions c =
+    pick (ltb c 16) 0
+    (pick (ltb 159 c) 0
+    (pick (sends slots actions ((c - 16) / 12)) 0
+    (12 - (c - 16) % 12)))
+
+pub record Silent (slots actions : List ℕ) (c r : ℕ) : Type 0 where
+  pub is : r ≡ silentFrom slots actions c
+  pub small : r ≤ 12
+
+-- how many numbers from c on are refused at sight, 0 where c is let through
+abbrev pub refusedBy : ℕ → ℕ → ℕ
+refusedBy row n = pick (ltb 0 row) row (pick (eqb n 0) 0 1)
+
+unfoldable pub refusedFrom : Sight → ℕ → ℕ
+refusedFrom g c = refusedBy (silentFrom (g .slots) (g .actions) c) (earlyOf g c)
+
+pub record Refused (g : Sight) (c r : ℕ) : Type 0 where
+  pub is : r ≡ refusedFrom g c
+  pub small : r ≤ 12
