@@ -6,22 +6,24 @@ use mathlib.Core.List.{List}
 use mathlib.Core.Path.{_≡_, refl, _∙_}
 use native.Mathlib.Omega.{arith}
 use lib.ListN.{length, getD}
-use lib.Seq.{getD-set-other}
+use lib.Seq.{getD-set-same, getD-set-other}
 use lib.Dec.{eqb, ltb}
 use borrow.Author.Tests.{lt-ltb, ltb-true}
 use Rattle.terms.specs.Base.{pick, also}
 use Rattle.model.specs.Records.{machineAt, locationIn}
 use Rattle.model.specs.declared.records.Model.{Model}
 use Rattle.model.specs.declared.records.Action.{Action}
-use Rattle.state.specs.Slot.{slotIn, slotAt, lowestFree}
+use Rattle.state.specs.Slot.{thread, packSlot, slotIn, slotAt, lowestFree}
 use Rattle.state.specs.Control.{oneMore}
 use Rattle.state.specs.Lock.{heldBy}
 use Rattle.state.specs.Moves.{withSlot, movedOn, jumpedTo, nonceAfter, frameMoved}
 use Rattle.state.specs.Launch.{isDynamic, lockLaunched, locksLaunched, frameLaunched}
-use Rattle.state.specs.Reset.{slotsReset, lockReset, locksReset, frameReset}
+use Rattle.state.specs.Reset.{slotsReset, bootThread, lockReset, locksReset, frameReset}
 use Rattle.state.specs.Hand.{frameHanded}
 use Rattle.state.specs.FrameSound.{mostOn, SlotsSound, FrameSound, Grounds}
 use Rattle.state.specs.declared.control.Frame.{Frame}
+use Rattle.state.specs.declared.slot.Slot.{Slot}
+use Rattle.state.proofs.Pack.{SmallSlot, slot-packed}
 use Rattle.state.proofs.Live.{zero-free}
 use Rattle.state.proofs.Threads.{never, moved-slots, jumped-slots, launched-slots, reset-slots, ended-slots, twelve-suffice}
 use Rattle.state.proofs.Holds.{each-at, locked-sound, launched-locks, reset-locks}
@@ -147,6 +149,25 @@ module _ (m : Model) (g : Grounds m) (f : Frame) (s : FrameSound m f) (some : f 
 -- M4: "Twelve slots always suffice": the boot thread of a reset finds a free slot
 pub reset-finds : (m : Model) → Grounds m → (f : Frame) → FrameSound m f → (k : ℕ) → lowestFree (slotsReset (f .slots) k) < 12
 reset-finds m g f s k = twelve-suffice m g (f .serial) (slotsReset (f .slots) k) (ended-slots m (mostOn m) (f .serial) (f .slots) (s .slots) k)
+
+-- and there it stands, with the next serial and agent 0, before its program's first action
+pub reset-boots : (m : Model) → Grounds m → (f : Frame) → FrameSound m f → (k : ℕ) → k < m .«machine_count»
+    → slotAt (frameReset f (machineAt (m .machines) k) (m .locations) k .slots) (lowestFree (slotsReset (f .slots) k))
+    ≡ thread (f .serial) 0 k (machineAt (m .machines) k .boot) 0
+unfolding frameReset withSlot slotAt bootThread
+reset-boots m g f s k u =
+    let r : List ℕ = slotsReset (f .slots) k in
+    let t : Slot = thread (f .serial) 0 k (machineAt (m .machines) k .boot) 0 in
+    let c : SmallSlot t = record {
+      serial = omega (arith, s .serial, s .steps);
+      agent = omega arith;
+      machine = omega (arith, g .machines);
+      program = omega (arith, g .boot k u, g .programs);
+      position = omega arith;
+    } in
+    let h : lowestFree r < 12 = reset-finds m g f s k in
+    let e : lowestFree r < length r = omega (arith, ended-slots m (mostOn m) (f .serial) (f .slots) (s .slots) k .long) in
+    rw (lt-ltb (lowestFree r) 12 h, getD-set-same r (lowestFree r) (packSlot t) 0 e, slot-packed t c)
 
 -- "All other locks stay": after a late launch a lock of no dynamic register of the machine is as it was
 pub launch-leaves : (l r : List ℕ) (k serial i : ℕ) → i < length l → isDynamic (getD r i 0) k ≡ false → getD (locksLaunched l r k serial) i 0 ≡ getD l i 0
