@@ -1,0 +1,23 @@
+-- `rules::effect::with_value` meets its contract: the range test of the definition.
+use borrow.Author.Needs.{needs}
+use borrow.Author.Tests.{lt-ltb, le-ltb}
+use Rattle.rules.specs.Effect.{withValue}
+use Rattle.rules.proofs.effect.with_value.Statement.{statement}
+use Rattle.rules.proofs.effect.with_value.Tie as tie
+
+mul-out : tie.Need-mul-out
+mul-out c = search needs
+
+array-write-out : tie.Need-array-write-out
+array-write-out c = search needs
+
+returns : tie.Need-returns
+unfolding withValue
+returns c = rw (lt-ltb _ _ (c .if1 .taken))
+
+returns-2 : tie.Need-returns-2
+unfolding withValue
+returns-2 c = rw (le-ltb _ _ (c .if1 .left))
+
+pub with-value-spec : {M : Type 1} → statement M
+with-value-spec = tie.close (tie.spec mul-out array-write-out returns returns-2)
