@@ -62,7 +62,7 @@ module _ (m : Model) (next : ℕ) where
       let exact = eqb (packLock (lockIn n)) n in let listed = ltb i (m .«location_count») in let below = ltb (lockIn n .serial) next in
       let no : (lockIn n .held ≡ false → eqb n 0 ≡ true) = λ h. pick-no (lockIn n .held) (also exact (also listed below)) (eqb n 0) h e in
       let yes : (lockIn n .held ≡ true → also exact (also listed below) ≡ true) =
-            λ h. pick-yes (lockIn n .held) (also exact (also listed below)) (eqb n 0) h e in
+      λ h. pick-yes (lockIn n .held) (also exact (also listed below)) (eqb n 0) h e in
       record {
         free = λ h. eqb-true n 0 (no h);
         packed = λ h. eqb-true (packLock (lockIn n)) n (also-left exact (also listed below) (yes h));
@@ -171,7 +171,7 @@ module _ (k c : ℕ) (l : List ℕ) where
       by : (b : Bool) → ltb i c ≡ b
           → countFrom n (i + 1) (λ j. listedThere (getD l j 0) (ltb j c) k) ≡ listedOn k (drop (i + 1) (take c l))
           → bitOf (also (ltb i c) (eqb (threadIn (getD l i 0) .machine) k)) + countFrom n (i + 1) (λ j. listedThere (getD l j 0) (ltb j c) k)
-            ≡ listedOn k (drop i (take c l))
+          ≡ listedOn k (drop i (take c l))
       by true e ih = rw (e, one-more i (ltb-true i c e) (omega arith), ih, bit-one (eqb (threadIn (getD l i 0) .machine) k))
       by false e ih =
           let a = none-left i (omega (arith, length-take c l, ltb-false i c e)) in

@@ -32,8 +32,13 @@ line-at-requires-2 c κs = search needs
 returns : tie.Need-returns Inv-loop μ-loop
 returns c =
     let p2 = c .before .before in let p3 = p2 .before in let p4 = p3 .before in
-    rw (p4 .loop .inv, all-more _ (p4 .loop .i) _ (p3 .loop-test .taken), ← (p2 .line-at .ensures),
-      ← (c .before .line-at2 .ensures), ne-eqb _ _ (c .if1 .taken))
+    rw (
+      p4 .loop .inv,
+      all-more _ (p4 .loop .i) _ (p3 .loop-test .taken),
+      ← (p2 .line-at .ensures),
+      ← (c .before .line-at2 .ensures),
+      ne-eqb _ _ (c .if1 .taken),
+    )
 
 add-i : tie.Need-add-i Inv-loop μ-loop
 add-i c = search needs
@@ -44,8 +49,13 @@ loop-less c = search needs
 loop-again : tie.Need-loop-again Inv-loop μ-loop
 loop-again c =
     let p2 = c .before .before in let p3 = p2 .before in let p4 = p3 .before in
-    rw (p4 .loop .inv, all-more _ (p4 .loop .i) _ (p3 .loop-test .taken), ← (p2 .line-at .ensures),
-      ← (c .before .line-at2 .ensures), eq-eqb _ _ (c .if1 .left))
+    rw (
+      p4 .loop .inv,
+      all-more _ (p4 .loop .i) _ (p3 .loop-test .taken),
+      ← (p2 .line-at .ensures),
+      ← (c .before .line-at2 .ensures),
+      eq-eqb _ _ (c .if1 .left),
+    )
 
 returns-2 : tie.Need-returns-2 Inv-loop μ-loop
 returns-2 c = rw (c .before .loop .inv, all-end _ (c .before .loop .i) _ (c .loop-test .left))

@@ -18,8 +18,11 @@ names-program-requires c κs = search needs
 returns-2 : tie.Need-returns-2
 unfolding leafSound
 returns-2 c =
-    rw (← (c .before .before .before .term-in .ensures), ne-eqb _ _ (c .before .if1 .left),
-      ← (c .names-program .ensures))
+    rw (
+      ← (c .before .before .before .term-in .ensures),
+      ne-eqb _ _ (c .before .if1 .left),
+      ← (c .names-program .ensures),
+    )
 
 pub leaf-sound-spec : {M : Type 1} → statement M
 leaf-sound-spec = tie.close (tie.spec term-in-requires returns names-program-requires returns-2)

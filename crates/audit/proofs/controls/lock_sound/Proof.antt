@@ -20,8 +20,12 @@ returns-2 : tie.Need-returns-2
 unfolding lockSound
 returns-2 c =
     let p2 = c .before .before in let p4 = p2 .before .before in
-    rw (← (p4 .lock-in .ensures), ← (c .before .pack-lock .ensures), ne-eqb _ _ (c .if2 .taken),
-      not-false (p4 .lock-in .result .held) (p2 .if1 .left))
+    rw (
+      ← (p4 .lock-in .ensures),
+      ← (c .before .pack-lock .ensures),
+      ne-eqb _ _ (c .if2 .taken),
+      not-false (p4 .lock-in .result .held) (p2 .if1 .left),
+    )
 
 both-requires : tie.Need-both-requires
 both-requires c κs = search needs
@@ -30,8 +34,13 @@ returns-3 : tie.Need-returns-3
 unfolding lockSound
 returns-3 c =
     let p2 = c .before .before in let p3 = p2 .before in let p4 = p3 .before in let p6 = p4 .before .before in
-    rw (← (p6 .lock-in .ensures), ← (p3 .pack-lock .ensures), eq-eqb _ _ (p2 .if2 .left), ← (c .both .ensures),
-      not-false (p6 .lock-in .result .held) (p4 .if1 .left))
+    rw (
+      ← (p6 .lock-in .ensures),
+      ← (p3 .pack-lock .ensures),
+      eq-eqb _ _ (p2 .if2 .left),
+      ← (c .both .ensures),
+      not-false (p6 .lock-in .result .held) (p4 .if1 .left),
+    )
 
 pub lock-sound-spec : {M : Type 1} → statement M
 lock-sound-spec =

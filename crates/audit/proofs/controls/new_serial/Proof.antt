@@ -34,8 +34,14 @@ same-serial-requires c κs = search needs
 returns : tie.Need-returns Inv-loop μ-loop
 returns c =
     let p2 = c .before .before in let p3 = p2 .before in let p4 = p3 .before in let p5 = p4 .before in
-    rw (p5 .loop .inv, all-more _ (p5 .loop .j) _ (p4 .loop-test .taken), ← (p3 .slot-at .ensures),
-      ← (p2 .slot-at2 .ensures), ← (c .before .same-serial .ensures), c .if1 .taken)
+    rw (
+      p5 .loop .inv,
+      all-more _ (p5 .loop .j) _ (p4 .loop-test .taken),
+      ← (p3 .slot-at .ensures),
+      ← (p2 .slot-at2 .ensures),
+      ← (c .before .same-serial .ensures),
+      c .if1 .taken,
+    )
 
 add-j : tie.Need-add-j Inv-loop μ-loop
 add-j c = search needs
@@ -46,8 +52,14 @@ loop-less c = search needs
 loop-again : tie.Need-loop-again Inv-loop μ-loop
 loop-again c =
     let p2 = c .before .before in let p3 = p2 .before in let p4 = p3 .before in let p5 = p4 .before in
-    rw (p5 .loop .inv, all-more _ (p5 .loop .j) _ (p4 .loop-test .taken), ← (p3 .slot-at .ensures),
-      ← (p2 .slot-at2 .ensures), ← (c .before .same-serial .ensures), c .if1 .left)
+    rw (
+      p5 .loop .inv,
+      all-more _ (p5 .loop .j) _ (p4 .loop-test .taken),
+      ← (p3 .slot-at .ensures),
+      ← (p2 .slot-at2 .ensures),
+      ← (c .before .same-serial .ensures),
+      c .if1 .left,
+    )
 
 returns-2 : tie.Need-returns-2 Inv-loop μ-loop
 returns-2 c = rw (c .before .loop .inv, all-end _ (c .before .loop .j) _ (c .loop-test .left))

@@ -20,8 +20,12 @@ returns-2 : tie.Need-returns-2
 unfolding slotSound
 returns-2 c =
     let p2 = c .before .before in let p4 = p2 .before .before in
-    rw (← (p4 .slot-in .ensures), ← (c .before .pack-slot .ensures), ne-eqb _ _ (c .if2 .taken),
-      not-false (p4 .slot-in .result .live) (p2 .if1 .left))
+    rw (
+      ← (p4 .slot-in .ensures),
+      ← (c .before .pack-slot .ensures),
+      ne-eqb _ _ (c .if2 .taken),
+      not-false (p4 .slot-in .result .live) (p2 .if1 .left),
+    )
 
 thread-fits-requires : tie.Need-thread-fits-requires
 thread-fits-requires c κs = search needs
@@ -30,8 +34,13 @@ returns-3 : tie.Need-returns-3
 unfolding slotSound
 returns-3 c =
     let p2 = c .before .before in let p3 = p2 .before in let p5 = p3 .before .before in
-    rw (← (p5 .slot-in .ensures), ← (p2 .pack-slot .ensures), eq-eqb _ _ (c .before .if2 .left),
-      ← (c .thread-fits .ensures), not-false (p5 .slot-in .result .live) (p3 .if1 .left))
+    rw (
+      ← (p5 .slot-in .ensures),
+      ← (p2 .pack-slot .ensures),
+      eq-eqb _ _ (c .before .if2 .left),
+      ← (c .thread-fits .ensures),
+      not-false (p5 .slot-in .result .live) (p3 .if1 .left),
+    )
 
 pub slot-sound-spec : {M : Type 1} → statement M
 slot-sound-spec =

@@ -16,8 +16,11 @@ returns-2 c = rw (lt-ltb _ _ (c .before .before .if1 .left), le-ltb _ _ (c .if2 
 returns-3 : tie.Need-returns-3
 unfolding threadFits
 returns-3 c =
-    rw (lt-ltb _ _ (c .before .before .before .before .if1 .left), lt-ltb _ _ (c .before .before .if2 .left),
-      le-ltb _ _ (c .if3 .taken))
+    rw (
+      lt-ltb _ _ (c .before .before .before .before .if1 .left),
+      lt-ltb _ _ (c .before .before .if2 .left),
+      le-ltb _ _ (c .if3 .taken),
+    )
 
 length-at-requires : tie.Need-length-at-requires
 length-at-requires c κs = search needs
@@ -26,8 +29,12 @@ returns-4 : tie.Need-returns-4
 unfolding threadFits
 returns-4 c =
     let p2 = c .before .before in let p4 = p2 .before .before in let p6 = p4 .before .before in
-    rw (lt-ltb _ _ (p6 .if1 .left), lt-ltb _ _ (p4 .if2 .left), lt-ltb _ _ (p2 .if3 .left),
-      ← (c .before .length-at .ensures))
+    rw (
+      lt-ltb _ _ (p6 .if1 .left),
+      lt-ltb _ _ (p4 .if2 .left),
+      lt-ltb _ _ (p2 .if3 .left),
+      ← (c .before .length-at .ensures),
+    )
 
 pub thread-fits-spec : {M : Type 1} → statement M
 thread-fits-spec = tie.close (tie.spec returns returns-2 returns-3 length-at-requires returns-4)

@@ -26,8 +26,12 @@ machine-fits-requires c κs = search needs
 returns : tie.Need-returns Inv-loop μ-loop
 returns c =
     let p2 = c .before .before in let p3 = p2 .before in
-    rw (p3 .loop .inv, all-more _ (p3 .loop .k) _ (p2 .loop-test .taken), ← (c .before .machine-fits .ensures),
-      not-true (c .before .machine-fits .result) (c .if1 .taken))
+    rw (
+      p3 .loop .inv,
+      all-more _ (p3 .loop .k) _ (p2 .loop-test .taken),
+      ← (c .before .machine-fits .ensures),
+      not-true (c .before .machine-fits .result) (c .if1 .taken),
+    )
 
 add-k : tie.Need-add-k Inv-loop μ-loop
 add-k c = search needs
@@ -38,8 +42,12 @@ loop-less c = search needs
 loop-again : tie.Need-loop-again Inv-loop μ-loop
 loop-again c =
     let p2 = c .before .before in let p3 = p2 .before in
-    rw (p3 .loop .inv, all-more _ (p3 .loop .k) _ (p2 .loop-test .taken), ← (c .before .machine-fits .ensures),
-      not-false (c .before .machine-fits .result) (c .if1 .left))
+    rw (
+      p3 .loop .inv,
+      all-more _ (p3 .loop .k) _ (p2 .loop-test .taken),
+      ← (c .before .machine-fits .ensures),
+      not-false (c .before .machine-fits .result) (c .if1 .left),
+    )
 
 returns-2 : tie.Need-returns-2 Inv-loop μ-loop
 returns-2 c = rw (c .before .loop .inv, all-end _ (c .before .loop .k) _ (c .loop-test .left))

@@ -34,8 +34,12 @@ value-sound-requires c κs = search needs
 returns : tie.Need-returns Inv-loop μ-loop
 returns c =
     let p2 = c .before .before in let p3 = p2 .before in
-    rw (p3 .loop .inv, all-more _ (p3 .loop .i) _ (p2 .loop-test .taken), ← (c .before .value-sound .ensures),
-      not-true (c .before .value-sound .result) (c .if1 .taken))
+    rw (
+      p3 .loop .inv,
+      all-more _ (p3 .loop .i) _ (p2 .loop-test .taken),
+      ← (c .before .value-sound .ensures),
+      not-true (c .before .value-sound .result) (c .if1 .taken),
+    )
 
 add-i : tie.Need-add-i Inv-loop μ-loop
 add-i c = search needs
@@ -46,8 +50,12 @@ loop-less c = search needs
 loop-again : tie.Need-loop-again Inv-loop μ-loop
 loop-again c =
     let p2 = c .before .before in let p3 = p2 .before in
-    rw (p3 .loop .inv, all-more _ (p3 .loop .i) _ (p2 .loop-test .taken), ← (c .before .value-sound .ensures),
-      not-false (c .before .value-sound .result) (c .if1 .left))
+    rw (
+      p3 .loop .inv,
+      all-more _ (p3 .loop .i) _ (p2 .loop-test .taken),
+      ← (c .before .value-sound .ensures),
+      not-false (c .before .value-sound .result) (c .if1 .left),
+    )
 
 returns-2 : tie.Need-returns-2 Inv-loop μ-loop
 returns-2 c = rw (c .before .loop .inv, all-end _ (c .before .loop .i) _ (c .loop-test .left))
