@@ -15,11 +15,11 @@ use Rattle.terms.specs.Base.{pick, held}
 use Rattle.terms.specs.Term.{shapeOf, inLimits, partsBy, partsBelow}
 use Rattle.terms.specs.Line.{packed, termIn, lineAt, termAt}
 use Rattle.terms.specs.Grade.{aboveLine, aboveBoth, gradeBy, gradeOf}
-use Rattle.terms.specs.Table.{freeOf, findIn, findLine, added, addBy, addTo}
+use Rattle.terms.specs.Table.{freeOf, findIn, findLine, findTerm, added, addBy, addTo}
 use Rattle.terms.specs.Sound.{Sound}
 use Rattle.terms.specs.Tree.{Tree, nought, deepness, member}
 use Rattle.terms.specs.Meaning.{build, trees, treeOf, means, Den}
-use Rattle.terms.specs.Promise.{Fit, Grows, Adds, deep, listed, new, full}
+use Rattle.terms.specs.Promise.{Fit, Grows, Adds, deep, listed, new, full, Finds, at, nothing}
 use Rattle.terms.specs.declared.term.Term.{Term}
 use Rattle.terms.specs.declared.term.Shape.{Shape}
 use Rattle.terms.specs.declared.term.Shape.the-variants.{Bare, Number, Variable, Sealed, Hashed, Applied, Joined, Unknown}
@@ -28,7 +28,7 @@ use Rattle.terms.specs.declared.table.Found.{Found}
 use Rattle.terms.specs.declared.table.Found.the-variants.{At, Nothing}
 use Rattle.terms.specs.declared.table.Outcome.the-variants as O
 use Rattle.terms.proofs.Pack.{Small, term-packed}
-use Rattle.terms.proofs.Meaning.{length-trees, trees-next, also-left, also-right, parts-more, tree-at, grade-depth, depth-right, term-one, one-label, member-den, trees-front}
+use Rattle.terms.proofs.Meaning.{length-trees, trees-next, also-left, also-right, parts-more, tree-at, grade-depth, depth-right, term-one, one-label, member-den, trees-front, tree-shallow}
 
 -- What a search among lines tells
 
@@ -273,3 +273,29 @@ adds-by {l} {c} S p x F false e = adds-found S p x F (ltb-false 16 (gradeOf l x 
 pub adds : {l : List ℕ} {c : ℕ} → Sound l c → length l ≡ 512 → (x : Term) → Fit x c → Adds l c x (addTo l c x)
 unfolding addTo
 adds {l} S p x F = adds-by S p x F (ltb 16 (gradeOf l x .depth)) refl
+
+-- a tree deeper than 16 has no label
+deep-not-member : {l : List ℕ} {c : ℕ} → Sound l c → length l ≡ 512 → (z : Tree) → 16 < deepness z → member z (trees l c) ≡ false
+deep-not-member {l} {c} S p z h = by (member z (trees l c)) refl
+  where
+    by : (t : Bool) → member z (trees l c) ≡ t → t ≡ false
+    by true e =
+        let d = member-den S p z e in
+        let low : deepness z ≤ 16 = rw (d .1 .is) at (tree-shallow S p (d .0) (d .1 .below)) in
+        absurd (omega arith)
+    by false e = refl
+
+finds-found : {l : List ℕ} {c : ℕ} → Sound l c → length l ≡ 512 → (x : Term) → Fit x c → (f : Found) → findLine l c (newLine l x) ≡ f → Finds l c x f
+finds-found {l} {c} S p x F (At i) e = at (line-den S p x F (line-hit l c (newLine l x) i (omega (arith, S .room, p)) e))
+finds-found {l} {c} S p x F Nothing e = nothing (not-member S p x F (line-miss l c (newLine l x) (omega (arith, S .room, p)) e))
+
+finds-by : {l : List ℕ} {c : ℕ} → Sound l c → length l ≡ 512 → (x : Term) → Fit x c → (t : Bool) → ltb 16 (gradeOf l x .depth) ≡ t
+    → Finds l c x (pick t Nothing (findLine l c (newLine l x)))
+finds-by {l} {c} S p x F true e =
+    nothing (deep-not-member S p (means l c x) (omega (arith, ltb-true 16 (gradeOf l x .depth) e, fit-depth S p x (F .parts))))
+finds-by {l} {c} S p x F false e = finds-found S p x F (findLine l c (newLine l x)) refl
+
+-- What `findTerm` answers, for a term that may be the next line
+pub finds : {l : List ℕ} {c : ℕ} → Sound l c → length l ≡ 512 → (x : Term) → Fit x c → Finds l c x (findTerm l c x)
+unfolding findTerm
+finds {l} S p x F = finds-by S p x F (ltb 16 (gradeOf l x .depth)) refl

@@ -13,6 +13,8 @@ use Rattle.terms.specs.Tree.{Tree, deepness, member, enter}
 use Rattle.terms.specs.Meaning.{trees, means, Den}
 use Rattle.terms.specs.declared.term.Term.{Term}
 use Rattle.terms.specs.declared.table.Added.{Added}
+use Rattle.terms.specs.declared.table.Found.{Found}
+use Rattle.terms.specs.declared.table.Found.the-variants as F
 use Rattle.terms.specs.declared.table.Outcome.the-variants as O
 use Rattle.terms.specs.declared.subst.Subbed.{Subbed}
 use Rattle.terms.specs.declared.subst.Got.the-variants as G
@@ -38,6 +40,11 @@ pub record Grows (l : List ℕ) (c : ℕ) (m : List ℕ) (d : ℕ) : Type 0 wher
 pub data Each {A B : Type 0} (P : A → B → Type 0) : List A → List B → Type 0 where
   none : Each P [] []
   one : {a : A} {b : B} {l : List A} {r : List B} → P a b → Each P l r → Each P (a ∷ l) (b ∷ r)
+
+-- Finding a term: a label exactly when it denotes the term, nothing exactly when no label does
+pub data Finds (l : List ℕ) (c : ℕ) (x : Term) : Found → Type 0 where
+  at : {i : ℕ} → Den l c i (means l c x) → Finds l c x (F.At i)
+  nothing : member (means l c x) (trees l c) ≡ false → Finds l c x F.Nothing
 
 -- T2. Adding a term: "8" exactly when it is deeper than 16; an old label exactly when one denotes it; else a new line, and "9" exactly when there is no room
 pub data Adds (l : List ℕ) (c : ℕ) (x : Term) : Held Added → Type 0 where
