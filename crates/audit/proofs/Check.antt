@@ -41,19 +41,19 @@ pick-no : (b p q : Bool) → b ≡ false → pick b p q ≡ true → q ≡ true
 pick-no b p q h e = rw h at e
 
 -- the record at a place within its array
-machine-in : (l : List ℕ) (i : ℕ) → i < 4 → machineAt l i ≡ machineIn (getD l i 0)
+pub machine-in : (l : List ℕ) (i : ℕ) → i < 4 → machineAt l i ≡ machineIn (getD l i 0)
 unfolding machineAt
 machine-in l i h = rw (lt-ltb i 4 h)
 
-location-in : (l : List ℕ) (i : ℕ) → i < 32 → locationAt l i ≡ locationIn (getD l i 0)
+pub location-in : (l : List ℕ) (i : ℕ) → i < 32 → locationAt l i ≡ locationIn (getD l i 0)
 unfolding locationAt
 location-in l i h = rw (lt-ltb i 32 h)
 
-thread-in : (l : List ℕ) (i : ℕ) → i < 8 → threadAt l i ≡ threadIn (getD l i 0)
+pub thread-in : (l : List ℕ) (i : ℕ) → i < 8 → threadAt l i ≡ threadIn (getD l i 0)
 unfolding threadAt
 thread-in l i h = rw (lt-ltb i 8 h)
 
-action-in : (l : List ℕ) (p k : ℕ) → actionAt l p k ≡ actionIn (numberOf l p k)
+pub action-in : (l : List ℕ) (p k : ℕ) → actionAt l p k ≡ actionIn (numberOf l p k)
 unfolding actionAt numberOf
 action-in l p k = by (ltb (p * 16 + k) 512) (getD l (p * 16 + k) 0)
   where

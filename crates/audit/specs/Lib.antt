@@ -7,3 +7,4 @@ pub mod Claims
 pub mod Models
 pub mod Sound
 pub mod Configuration
+pub mod Whole

@@ -3,7 +3,7 @@
 use Prim.Native.Nat.{ℕ, zero, suc, _+_}
 use mathlib.Core.Path.{_≡_, refl}
 use mathlib.Core.Bool.{Bool, true, false}
-use mathlib.Core.List.{List, [], _∷_}
+use mathlib.Core.List.{List}
 use lib.ListN.{getD, drop, set}
 use lib.Dec.{eqb, ltb}
 use Rattle.terms.specs.Base.{pick}
@@ -23,7 +23,7 @@ use Rattle.state.specs.declared.code.Way.the-variants as W
 use Rattle.state.specs.declared.control.Frame.{Frame}
 use Rattle.rules.specs.Effect.{withValue, stored, placeOf, withVar, filled, cleared, boundBy, bound}
 use Rattle.rules.specs.Restart.{valueLaunched, valuesLaunched, resetValue, valueReset, valuesReset, varReset, eachSlot, varsReset}
-use Rattle.rules.specs.Made.{Layout, Config, jumpedOn, actedOn, launchedOn, resetOn, handedOn, advancedBy, advancedOn, madeBy, madeOn}
+use Rattle.rules.specs.Made.{Layout, Config, jumpedOn, actedOn, launchedOn, resetOn, handedOn, advancedOn, madeBy, madeOn}
 
 module _ {A B : Type 0} (P : A → B → Type 0) where
   -- related frames are equal

@@ -7,7 +7,7 @@ use mathlib.Core.List.{List}
 use native.Mathlib.Omega.{arith}
 use lib.Dec.{eqb}
 use Rattle.terms.specs.Base.{pick, Held, held}
-use Rattle.terms.specs.Table.{addTo, cutTo}
+use Rattle.terms.specs.Table.{addTo}
 use Rattle.terms.specs.Subst.{takeOperands}
 use Rattle.terms.specs.declared.term.Term.{Term}
 use Rattle.terms.specs.declared.table.Outcome.{Outcome}
@@ -28,7 +28,7 @@ use Rattle.rules.specs.Want.{wantOf}
 use Rattle.rules.specs.Effect.{placeOf}
 use Rattle.rules.specs.Work.{resultBy, meetNew, meetBy, meetWant, givenAt, tryBy, tryAction, workedBy, workAdvance, workBy, workOn}
 use Rattle.rules.specs.Made.{Layout, controlAfter}
-use Rattle.rules.specs.Step.{stepped, refusedStep, goWorked, goOn, stepBy, stepOn}
+use Rattle.rules.specs.Step.{stepped, refusedStep, goWorked, goOn, stepOn}
 use Rattle.rules.specs.declared.want.Want.{Want}
 use Rattle.rules.specs.declared.want.Want.the-variants.{Refuse, Keep, Make}
 use Rattle.rules.specs.declared.event.Happening.{Happening}

@@ -9,7 +9,6 @@ use native.Mathlib.Omega.{arith}
 use lib.ListN.{length, getD, take, drop, set, drop-of-length-le}
 use lib.Seq.{sets, drop-cons, take-suc-set, drop-set-lt, take-all}
 use lib.Dec.{ltb}
-use borrow.Author.Tests.{ltb-true, ltb-false}
 use Rattle.terms.specs.Base.{pick}
 use Rattle.rules.specs.Effect.{placeOf, lastPlace, filled, cleared}
 use Rattle.rules.specs.Restart.{eachSlot}

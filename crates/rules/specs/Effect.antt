@@ -1,7 +1,6 @@
 -- What an action does to the values of locations and to variables. These are lists of labels; since nothing here looks
 -- into a label, all is said for any type in its place, with what stands for label 0 (none) given.
 use Prim.Native.Nat.{ℕ, zero, suc, _+_, _*_, _≤_}
-use mathlib.Core.Bool.{Bool, true, false}
 use mathlib.Core.List.{List}
 use mathlib.Core.Path.{_≡_}
 use lib.ListN.{set}

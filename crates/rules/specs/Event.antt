@@ -1,7 +1,6 @@
 -- The event of a permitted step and its record, twelve plain numbers. "Each permitted step gives one event: its kind and
 -- its data".
 use Prim.Native.Nat.{ℕ, _+_, _*_, _/_}
-use mathlib.Core.Bool.{Bool, true, false}
 use mathlib.Core.List.{List, [], _∷_}
 use lib.ListN.{length, getD}
 use lib.Seq.{sets}

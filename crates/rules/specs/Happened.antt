@@ -1,6 +1,5 @@
 -- The event of a step whose work is done, with the programs of the threads that end by it.
 use Prim.Native.Nat.{ℕ}
-use mathlib.Core.Bool.{Bool, true, false}
 use mathlib.Core.List.{List}
 use lib.Dec.{eqb}
 use Rattle.terms.specs.Base.{pick}

@@ -1,7 +1,6 @@
 -- The configuration after a step whose work is done, for any type of labels: `none`, `sinit`, `dinit` stand for labels 0,
 -- 1, 2; x and r for the labels of ground x and of the result, p for the program of a jump.
 use Prim.Native.Nat.{ℕ}
-use mathlib.Core.Bool.{Bool, true, false}
 use mathlib.Core.List.{List}
 use lib.Dec.{eqb}
 use Rattle.terms.specs.Base.{pick}

@@ -1,7 +1,6 @@
 -- What a late launch and a reset do to the values of locations and to variables, for any type of labels: `none`, `sinit`,
 -- `dinit` stand for labels 0, 1, 2.
 use Prim.Native.Nat.{ℕ, _+_, _/_}
-use mathlib.Core.Bool.{Bool, true, false}
 use mathlib.Core.List.{List, [], _∷_}
 use lib.ListN.{getD}
 use lib.Dec.{eqb}

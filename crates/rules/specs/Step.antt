@@ -1,7 +1,6 @@
 -- One step of a sound configuration: refusals 1 to 7, the work on the table (8 to 10), then event and configuration.
 -- "A refused step gives its number, no event, and the configuration, term table included, as it came."
 use Prim.Native.Nat.{ℕ}
-use mathlib.Core.Bool.{Bool, true, false}
 use mathlib.Core.List.{List}
 use lib.Dec.{eqb}
 use Rattle.terms.specs.Base.{pick, Held, held}

@@ -1,7 +1,7 @@
 -- What an action asks of the table once its operands are there: a label to keep, a term to make, or a refusal (10).
 -- One line an action. "Actions with no value of their own bind label 0": they keep 0.
 use Prim.Native.Nat.{ℕ}
-use mathlib.Core.Bool.{Bool, true, false}
+use mathlib.Core.Bool.{Bool}
 use lib.Dec.{eqb}
 use Rattle.terms.specs.Base.{pick}
 use Rattle.terms.specs.Term.{term}

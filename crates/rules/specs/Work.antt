@@ -1,6 +1,5 @@
 -- What a step does with the table: "the operands (8, then 9); 10; the result (8, then 9)". A refusal cuts the table back.
 use Prim.Native.Nat.{ℕ, _%_}
-use mathlib.Core.Bool.{Bool, true, false}
 use mathlib.Core.List.{List}
 use lib.Dec.{eqb}
 use Rattle.terms.specs.Base.{pick, Held, held}
@@ -19,7 +18,6 @@ use Rattle.state.specs.Slot.{slotAt}
 use Rattle.state.specs.Code.{wayOf}
 use Rattle.state.specs.Control.{valueAt}
 use Rattle.state.specs.Early.{nextAction}
-use Rattle.state.specs.declared.slot.Slot.{Slot}
 use Rattle.state.specs.declared.code.Way.{Way}
 use Rattle.state.specs.declared.code.Way.the-variants as W
 use Rattle.state.specs.declared.control.Control.{Control}

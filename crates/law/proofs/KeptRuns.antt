@@ -1,0 +1,108 @@
+-- M3 for whole runs, and in terms of the tests that the code makes: where model and configuration passed them once, every
+-- configuration reached passes them. So a run or a search may check once and then make its steps unchecked.
+use Prim.Native.Nat.{ℕ, _<_}
+use mathlib.Core.Path.{_≡_, refl, ap, _∙_}
+use mathlib.Core.Bool.{true}
+use mathlib.Core.List.{List, [], _∷_}
+use Rattle.terms.specs.Base.{pick, Held}
+use Rattle.model.specs.declared.records.Model.{Model}
+use Rattle.state.specs.Slot.{lowestFree}
+use Rattle.state.specs.Reset.{slotsReset}
+use Rattle.state.specs.Control.{freshControl}
+use Rattle.state.specs.declared.control.Control.{Control}
+use Rattle.state.proofs.Frame.{reset-finds}
+use Rattle.rules.specs.Step.{stepOn}
+use Rattle.rules.specs.declared.inner.Stepped.{Stepped}
+use Rattle.audit.specs.Models.{soundModel}
+use Rattle.audit.specs.Sound.{SoundModel}
+use Rattle.audit.specs.Configuration.{soundControl}
+use Rattle.audit.specs.Whole.{Arrays, Lengths, SoundConfig}
+use Rattle.audit.proofs.Check.{test-model, model-test}
+use Rattle.audit.proofs.Whole.{sound-grounds, test-control, control-test}
+use Rattle.law.specs.Rules.{layoutOf}
+use Rattle.law.specs.Like.{All}
+use Rattle.law.specs.Runs.{runLabels}
+use Rattle.law.proofs.KeptFresh.{fresh-passes}
+use Rattle.law.proofs.KeptStep.{step-sound}
+
+-- the machine's step on table l and control s
+abbrev pub stepFrom : Model → List ℕ → Control → ℕ → Held Stepped
+stepFrom m l s code = stepOn l s (layoutOf m) (m .«machine_count») code
+
+-- what a step leaves is sound, and passes the test
+abbrev pub LeavesSound : Model → Held Stepped → Type 0
+LeavesSound m w = SoundConfig m (w .table) (w .out .control)
+
+abbrev pub LeavesPassing : Model → Held Stepped → Type 0
+LeavesPassing m w = soundControl m (w .table) (w .out .control) ≡ true
+
+-- a sound configuration has the lengths of its arrays
+pub config-lengths : {m : Model} {l : List ℕ} {s : Control} → SoundConfig m l s → Lengths l s
+config-lengths C = record {
+  lines = C .terms .long;
+  slots = C .frame .slots .long;
+  locks = C .frame .locks .long;
+  values = C .values .long;
+  vars = C .vars .long;
+}
+
+-- M4: a reset finds a free slot in every sound configuration
+pub slot-found : {m : Model} → SoundModel m → Arrays m → {l : List ℕ} {s : Control} → SoundConfig m l s → (k : ℕ)
+    → lowestFree (slotsReset (s .frame .slots) k) < 12
+slot-found {m} M A {s = s} C k = reset-finds m (sound-grounds M A) (s .frame) (C .frame) k
+
+-- M3 for a run: every step of it leaves a sound configuration
+pub run-sound : {m : Model} → SoundModel m → Arrays m → {l : List ℕ} {s : Control} → SoundConfig m l s → (ks : List ℕ)
+    → All (LeavesSound m) (runLabels m l s ks)
+unfolding runLabels
+run-sound M A C [] = All.none
+run-sound M A C (k ∷ ks) = All.one (step-sound M A C k) (run-sound M A (step-sound M A C k) ks)
+
+-- so all that is reached from the fresh configuration is sound
+pub reached-sound : {m : Model} → SoundModel m → Arrays m → (ks : List ℕ) → All (LeavesSound m) (runLabels m (m .lines) (freshControl m) ks)
+reached-sound M A ks = run-sound M A (fresh-passes M A) ks
+
+-- The same in terms of the tests
+
+pub fresh-test : {m : Model} → Arrays m → soundModel m ≡ true → soundControl m (m .lines) (freshControl m) ≡ true
+fresh-test A e = control-test A (fresh-passes (test-model (A .lines) e) A)
+
+pub step-test : {m : Model} → Arrays m → {l : List ℕ} {s : Control} → Lengths l s → soundModel m ≡ true → soundControl m l s ≡ true → (code : ℕ)
+    → LeavesPassing m (stepFrom m l s code)
+step-test A L e f code =
+    let M = test-model (A .lines) e in
+    control-test A (step-sound M A (test-control M A L f) code)
+
+all-pass : {m : Model} → Arrays m → {ws : List (Held Stepped)} → All (LeavesSound m) ws → All (LeavesPassing m) ws
+all-pass A All.none = All.none
+all-pass A (All.one C cs) = All.one (control-test A C) (all-pass A cs)
+
+pub run-test : {m : Model} → Arrays m → {l : List ℕ} {s : Control} → Lengths l s → soundModel m ≡ true → soundControl m l s ≡ true → (ks : List ℕ)
+    → All (LeavesPassing m) (runLabels m l s ks)
+run-test A L e f ks =
+    let M = test-model (A .lines) e in
+    all-pass A (run-sound M A (test-control M A L f) ks)
+
+pub reached-test : {m : Model} → Arrays m → soundModel m ≡ true → (ks : List ℕ) → All (LeavesPassing m) (runLabels m (m .lines) (freshControl m) ks)
+reached-test A e ks = all-pass A (reached-sound (test-model (A .lines) e) A ks)
+
+-- The tests made before a step find nothing: with 11 asked first or not, it is the same step, and the same run
+
+pub checked-inner : {m : Model} → SoundModel m → Arrays m → {l : List ℕ} {s : Control} → SoundConfig m l s → {B : Type 0} (x y : B)
+    → pick (soundModel m) (pick (soundControl m l s) x y) y ≡ x
+checked-inner M A C x y = rw (model-test (A .lines) M, control-test A C)
+
+-- a run whose steps are made by `step`
+unfoldable pub runBy : (List ℕ → Control → ℕ → Held Stepped) → List ℕ → Control → List ℕ → List (Held Stepped)
+runBy step l s [] = []
+runBy step l s (k ∷ ks) = step l s k ∷ runBy step (step l s k .table) (step l s k .out .control) ks
+
+-- any step that is the machine's on sound configurations, as the checked one is, makes the same run
+pub run-agrees : {m : Model} → SoundModel m → Arrays m → (step : List ℕ → Control → ℕ → Held Stepped)
+    → ((l : List ℕ) (s : Control) (code : ℕ) → SoundConfig m l s → step l s code ≡ stepFrom m l s code)
+    → {l : List ℕ} {s : Control} → SoundConfig m l s → (ks : List ℕ) → runBy step l s ks ≡ runLabels m l s ks
+unfolding runBy runLabels
+run-agrees M A step f C [] = refl
+run-agrees {m} M A step f {l} {s} C (k ∷ ks) =
+    ap (λ (w : Held Stepped). w ∷ runBy step (w .table) (w .out .control) ks) (f l s k C)
+    ∙ ap (λ (ws : List (Held Stepped)). stepFrom m l s k ∷ ws) (run-agrees M A step f (step-sound M A C k) ks)
