@@ -1,0 +1,2 @@
+-- The small models that the worked facts are about.
+pub mod Models

@@ -1,0 +1,168 @@
+// The claim, judged over the records of a run. A step breaks it if it has an accept of the claim's program and no thread
+// made for the claim, by an earlier event, has in earlier events first jumped along the path.
+use model::records::Claim;
+use rules::event::Record;
+use rules::event::number_at;
+use state::control::one_more;
+ghost use mathlib.Core.Path.{_≡_};
+ghost use Rattle.machine.specs.Judge.{acceptsAt, makingOp, makesAt, pathAt, followAt, followsOn, fulfilsAt, walkedOn, breaksOn, firstAccept, firstBreakOn, acceptsOn};
+
+// Record n breaks the claim, the n records before it being what is earlier.
+pub fn breaks(records: &[u16], n: u16, c: Claim) -> bool
+    ensures { λ r. ⌜ r ≡ breaksOn (now (records .entry)) n c ⌝ }
+{
+    if !accepts(records, n, c.program) {
+        return false;
+    }
+    if walked(records, n, c) { false } else { true }
+}
+
+// The first of n records that breaks the claim, counted from 1; 0 where none does. Once the path is walked it stays
+// walked, so only the first accept of the program can break.
+pub fn first_break(records: &[u16], n: u16, c: Claim) -> u16
+    ensures { λ r. ⌜ r ≡ firstBreakOn (now (records .entry)) n c ⌝ }
+{
+    let i = first_accept(records, n, c.program);
+    if i == n {
+        return 0;
+    }
+    if walked(records, i, c) {
+        return 0;
+    }
+    one_more(i)
+}
+
+fn first_accept(records: &[u16], n: u16, program: u8) -> u16
+    ensures { λ r. ⌜ r ≡ firstAccept (now (records .entry)) n program ⌝ }
+{
+    let mut i = 0;
+    while i < n {
+        if accepts(records, i, program) {
+            return i;
+        }
+        i += 1;
+    }
+    n
+}
+
+// Record i has an accept of a program: the ending of a thread that was in it.
+pub fn accepts(records: &[u16], i: u16, program: u8) -> bool
+    ensures { λ r. ⌜ r ≡ acceptsAt (now (records .entry)) i program ⌝ }
+{
+    let endings = number_at(records, i, Record::ENDINGS);
+    if endings == 0 {
+        return false;
+    }
+    let p = program as u16;
+    let first = number_at(records, i, Record::FIRST);
+    if first == p {
+        return true;
+    }
+    if endings == 1 {
+        return false;
+    }
+    let second = number_at(records, i, Record::SECOND);
+    second == p
+}
+
+// Among the first n events one made a thread for the claim whose first jumps are the path.
+pub fn walked(records: &[u16], n: u16, c: Claim) -> bool
+    ensures { λ r. ⌜ r ≡ walkedOn (now (records .entry)) n c ⌝ }
+{
+    let mut i = 0;
+    while i < n {
+        if fulfils(records, n, i, c) {
+            return true;
+        }
+        i += 1;
+    }
+    false
+}
+
+fn fulfils(records: &[u16], n: u16, i: u16, c: Claim) -> bool
+    ensures { λ r. ⌜ r ≡ fulfilsAt (now (records .entry)) n i c ⌝ }
+{
+    if !makes(records, i, c) {
+        return false;
+    }
+    let thread = number_at(records, i, Record::THREAD);
+    follows(records, n, thread, c)
+}
+
+// A reset (kind 1: a late launch) of the claim's machine.
+fn makes(records: &[u16], i: u16, c: Claim) -> bool
+    ensures { λ r. ⌜ r ≡ makesAt (now (records .entry)) i c ⌝ }
+{
+    let op = number_at(records, i, Record::OP);
+    let making = making_op(c.kind);
+    if op != making {
+        return false;
+    }
+    let machine = number_at(records, i, Record::MACHINE);
+    machine == c.machine as u16
+}
+
+fn making_op(kind: u8) -> u16
+    ensures { λ r. ⌜ r ≡ makingOp kind ⌝ }
+{
+    if kind == 0 { 21 } else { 20 }
+}
+
+// The first jumps of a thread among n events begin with the path.
+fn follows(records: &[u16], n: u16, serial: u16, c: Claim) -> bool
+    ensures { λ r. ⌜ r ≡ followsOn (now (records .entry)) n serial c ⌝ }
+{
+    let mut at = 0;
+    let mut i = 0;
+    while i < n {
+        at = follow(records, i, serial, c, at);
+        i += 1;
+    }
+    at == c.length
+}
+
+// How far along the path the thread is after record i: a jump to the next program of the path, to another, or no jump.
+fn follow(records: &[u16], i: u16, serial: u16, c: Claim, at: u8) -> u8
+    ensures { λ r. ⌜ r ≡ followAt (now (records .entry)) i serial c at ⌝ }
+{
+    if c.length <= at {
+        return at;
+    }
+    let op = number_at(records, i, Record::OP);
+    if op != 19 {
+        return at;
+    }
+    let mover = number_at(records, i, Record::SERIAL);
+    if mover != serial {
+        return at;
+    }
+    let program = number_at(records, i, Record::PROGRAM);
+    let next = path_at(c, at) as u16;
+    if program == next {
+        at % 255 + 1
+    } else {
+        Claim::LEFT
+    }
+}
+
+pub fn path_at(c: Claim, at: u8) -> u8
+    ensures { λ r. ⌜ r ≡ pathAt c at ⌝ }
+{
+    let path = c.path;
+    let i = at as usize;
+    if i < 4 { path[i] } else { 0 }
+}
+
+// Accepts of any program in n records.
+pub fn all_accepts(records: &[u16], n: u16) -> u32
+    ensures { λ r. ⌜ r ≡ acceptsOn (now (records .entry)) n ⌝ }
+{
+    let mut sum = 0;
+    let mut i = 0;
+    while i < n {
+        let endings = number_at(records, i, Record::ENDINGS) as u32;
+        sum += endings;
+        i += 1;
+    }
+    sum
+}
