@@ -209,7 +209,7 @@ fn programs_differ<'a>(actions: &'a [u64; 512], lengths: &'a [u8; 32], programs:
 }
 
 // No earlier program has equal actions.
-fn new_program<'a>(actions: &'a [u64; 512], lengths: &'a [u8; 32], p: u8) -> bool
+pub fn new_program<'a>(actions: &'a [u64; 512], lengths: &'a [u8; 32], p: u8) -> bool
     ensures { λ r. ⌜ r ≡ newProgram (now (actions .entry)) (now (lengths .entry)) p ⌝ }
 {
     let mut q = 0;

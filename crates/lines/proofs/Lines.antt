@@ -338,7 +338,7 @@ take-by true p k b s e h f =
     rw (e, g)
 take-by false p k b s e h f = rw e
 
-span-take : (p : ℕ → Bool) (k : ℕ) (s : List ℕ) → span p s < k → span p (take k s) ≡ span p s
+pub span-take : (p : ℕ → Bool) (k : ℕ) (s : List ℕ) → span p s < k → span p (take k s) ≡ span p s
 unfolding span
 span-take p zero s h = absurd (omega arith)
 span-take p (suc k) [] h = refl

@@ -1,0 +1,81 @@
+-- One term more.
+use Prim.Native.Nat.{ℕ, zero, suc, _+_, _<_, _≤_}
+use mathlib.Core.Path.{_≡_, refl, sym, ap, _∙_}
+use mathlib.Core.List.{List}
+use native.Mathlib.Omega.{arith}
+use lib.ListN.{getD, set, replicate, length-set, length-replicate}
+use lib.Seq.{getD-set-same, getD-set-other}
+use Rattle.terms.specs.Term.{shapeOf}
+use Rattle.terms.specs.Line.{termAt, termIn}
+use Rattle.terms.specs.Table.{freshTable}
+use Rattle.terms.specs.Tree.{Tree, leaf, sealed, applied, joined}
+use Rattle.terms.specs.Meaning.{buildBy, build, trees, treeOf, means, Den}
+use Rattle.terms.specs.Promise.{Grows}
+use Rattle.terms.specs.declared.term.Term.{Term}
+use Rattle.terms.specs.declared.term.Shape.{Shape}
+use Rattle.terms.specs.declared.term.Shape.the-variants.{Bare, Number, Variable, Sealed, Hashed, Applied, Joined, Unknown}
+use Rattle.terms.proofs.Check.{fresh-long, fresh-sound}
+use Rattle.terms.proofs.Meaning.{tree-at, tree-grows, term-grows, den-nought, den-sinit, den-dinit}
+use Rattle.audit.specs.Tops.{topmost}
+use Rattle.reader.proofs.LoadedFacts.{Terms}
+use Rattle.reader.proofs.LoadedLists.{below-or, zero-at}
+
+-- the kind that a tree shows
+kindOf : Tree → ℕ
+kindOf (leaf k a) = k
+kindOf (sealed k x n) = k
+kindOf (applied k f x) = k
+kindOf (joined k x y) = k
+
+kind-by : (s : Shape) (k a b : ℕ) (ts : List Tree) → kindOf (buildBy s k a b ts) ≡ k
+unfolding kindOf
+kind-by Bare k a b ts = refl
+kind-by Number k a b ts = refl
+kind-by Variable k a b ts = refl
+kind-by Sealed k a b ts = refl
+kind-by Hashed k a b ts = refl
+kind-by Applied k a b ts = refl
+kind-by Joined k a b ts = refl
+kind-by Unknown k a b ts = refl
+
+kind-means : (l : List ℕ) (c : ℕ) (x : Term) → kindOf (means l c x) ≡ x .kind
+unfolding means build
+kind-means l c x = kind-by (shapeOf (x .kind)) (x .kind) (x .a) (x .b) (trees l c)
+
+-- the new line holds a term of the new term's kind
+kind-new : {l : List ℕ} {c : ℕ} {m : List ℕ} (x : Term) → Grows l c m (c + 1) → Den m (c + 1) c (means l c x) → termAt m c .kind ≡ x .kind
+kind-new {l} {c} {m} x G D =
+    sym (kind-means m (c + 1) (termAt m c)) ∙ ap kindOf (sym (tree-at (G .sound) (G .long) c (omega arith)) ∙ D .is) ∙ kind-means l c x
+
+-- need is what the new term asks to be bound
+pub next-term : {l : List ℕ} {c : ℕ} {m needs : List ℕ} → Terms l c needs → (x : Term) → (x .kind ≡ 7 → ⊥) → c < 512
+    → Grows l c m (c + 1) → Den m (c + 1) c (means l c x) → (need : ℕ) → need ≡ topmost (means l c x) → Terms m (c + 1) (set needs c need)
+next-term {l} {c} {m} {needs} T x seven room G D need e = record {
+  long = G .long;
+  table = G .sound;
+  nonces = λ i h g. below-or (λ j. 3 ≤ j → termAt m j .kind ≡ 7 → ⊥) c
+      (λ j k q r. T .nonces j q k (ap (λ (n : ℕ). termIn n .kind) (sym (term-grows G j k)) ∙ r))
+      (λ q r. seven (sym (kind-new x G D) ∙ r))
+      i g h;
+  wide = length-set needs c need ∙ T .wide;
+  right = below-or (λ i. getD (set needs c need) i 0 ≡ topmost (treeOf m (c + 1) i)) c
+      (λ i h. getD-set-other needs c i need 0 (omega arith) ∙ T .right i h ∙ ap topmost (sym (tree-grows G i h)))
+      (getD-set-same needs c need 0 (omega (arith, T .wide)) ∙ e ∙ ap topmost (sym (D .is)));
+}
+
+-- the fixed terms alone ask nothing
+pub fresh-terms : Terms (freshTable .lines) (freshTable .count) (replicate 512 0)
+unfolding topmost freshTable
+fresh-terms = record {
+  long = fresh-long;
+  table = fresh-sound;
+  nonces = λ i h g. absurd (omega arith);
+  wide = length-replicate {A = ℕ} 512 0;
+  right = λ i h. zero-at 512 i ∙ sym (zero-top i h);
+}
+  where
+    zero-top : (i : ℕ) → i < 3 → topmost (treeOf (freshTable .lines) 3 i) ≡ 0
+    zero-top zero h = ap topmost (den-nought fresh-sound fresh-long .is)
+    zero-top (suc zero) h = ap topmost (den-sinit fresh-sound fresh-long .is)
+    zero-top (suc (suc zero)) h = ap topmost (den-dinit fresh-sound fresh-long .is)
+    zero-top (suc (suc (suc i))) h = absurd (omega arith)

@@ -1,0 +1,55 @@
+-- `reader::location::location_entry` meets its contract: there is a place for it, or not.
+use borrow.Author.Tests.{le-leb, lt-leb}
+use borrow.Author.Needs.{needs}
+use Rattle.reader.specs.Drafts.{withLocation}
+use Rattle.reader.specs.LLine.{locationEntry}
+use Rattle.reader.proofs.location.location_entry.Statement.{statement}
+use Rattle.reader.proofs.location.location_entry.Tie as tie
+
+cast-i : tie.Need-cast-i
+cast-i c = search needs
+
+refuse-requires : tie.Need-refuse-requires
+refuse-requires c κs = search needs
+
+returns : tie.Need-returns
+unfolding locationEntry withLocation
+returns c = rw (le-leb _ _ (c .before .if1 .taken), c .refuse .ensures)
+
+pack-location-requires : tie.Need-pack-location-requires
+pack-location-requires c κs = search needs
+
+mul-e : tie.Need-mul-e
+mul-e c = search needs
+
+element-write-e : tie.Need-element-write-e
+element-write-e c = search needs
+
+add-e : tie.Need-add-e
+add-e c = search needs
+
+accept-requires : tie.Need-accept-requires
+accept-requires c κs = search needs
+
+returns-2 : tie.Need-returns-2
+unfolding locationEntry withLocation
+returns-2 c =
+    rw (
+      lt-leb _ _ (c .before .before .before .if1 .left),
+      ← (c .before .before .pack-location .ensures),
+      c .accept .ensures,
+    )
+
+pub location-entry-spec : {M : Type 1} → statement M
+location-entry-spec =
+    tie.close
+    (tie.spec
+    cast-i
+    refuse-requires
+    returns
+    pack-location-requires
+    mul-e
+    element-write-e
+    add-e
+    accept-requires
+    returns-2)
