@@ -15,7 +15,7 @@ use Rattle.walk.specs.Reply.{found, stop, end, Reply}
 use Rattle.walk.specs.Trail.{Mark, plain, sized, bad, markOf}
 use Rattle.walk.specs.Place.{Place, Next, over, pair, from, settle, placeOf, nextIn, at, unbroken, fits}
 use Rattle.walk.specs.Walk.{reply, after, turn, walk, search}
-use Rattle.walk.specs.Answers.{Answers, seen}
+use Rattle.walk.specs.Answers.{AnyBudget, Answers, seen}
 use Rattle.walk.specs.Array.{Spot, stackOf, view, wordOf, settledIn, afterIn, turnIn, walkIn, searchIn}
 use Rattle.walk.proofs.Lists.{all-at}
 use Rattle.walk.proofs.Codes.{from-mem, from-zero}
@@ -142,10 +142,10 @@ search-is M C n k room b q ok =
     (settle-fit M n (stackOf (q .codes) (q .len)) (from (q .next) (M .codes)) (q .next) refl (f .good) (f .short))
 
 -- a program's search answers as the walk does
-pub program : (M : Machine) → Coded M → (n k : ℕ) → n ≤ k → Answers M n (searchIn M n) view (Ok M n k)
+pub program : (M : Machine) → Coded M → (n k : ℕ) → n ≤ k → Answers M n (searchIn M n) view AnyBudget (Ok M n k)
 program M C n k room = record {
-  is = λ b q ok. search-is M C n k room b q ok .same;
-  on = λ b q ok. (
+  is = λ b q can ok. search-is M C n k room b q ok .same;
+  on = λ b q can ok. (
     subst (λ (p : Place). fits M n p ≡ true) (sym (ap (λ (r : Reply Place). r .place) (search-is M C n k room b q ok .same)))
         (search-fits M n b (view q) (ok .0)),
     search-is M C n k room b q ok .long,

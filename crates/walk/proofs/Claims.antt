@@ -15,7 +15,7 @@ use Rattle.walk.specs.Trail.{Try, trails, sizedIn, allBad}
 use Rattle.walk.specs.Place.{Place, first, fits}
 use Rattle.walk.specs.Walk.{search}
 use Rattle.walk.specs.Passed.{passing, Passed}
-use Rattle.walk.specs.Answers.{Answers}
+use Rattle.walk.specs.Answers.{AnyBudget, Answers}
 use Rattle.walk.specs.Follows.{Follows}
 use Rattle.walk.proofs.Fit.{search-fits}
 use Rattle.walk.proofs.Pass.{search-passes}
@@ -26,8 +26,8 @@ use Rattle.walk.proofs.Gather.{Counted, gathered, ends}
 use Rattle.walk.proofs.Same.{same-bad}
 
 -- the walk answers as itself, on the places that fit
-pub itself : (M : Machine) (n : ℕ) → Answers M n (search M n) (λ q. q) (λ q. fits M n q ≡ true)
-itself M n = record { is = λ b p ok. refl; on = λ b p ok. search-fits M n b p ok }
+pub itself : (M : Machine) (n : ℕ) → Answers M n (search M n) (λ q. q) AnyBudget (λ q. fits M n q ≡ true)
+itself M n = record { is = λ b p can ok. refl; on = λ b p can ok. search-fits M n b p ok }
 
 -- S2 for one call from a place that fits: the tries passed stand in the list of all tries, behind those before the place and
 -- before those ahead of the place given back
@@ -38,10 +38,10 @@ call-passes M C n b p f =
     let h : Passed M n b (passing M n p) 0 0 (search M n b p) = search-passes M C n b p in
     (s .0, h, s .1 ∙ ap (λ (r : List Try). s .0 ++ r) (h .parts))
 
-module _ (M : Machine) (C : Coded M) (n : ℕ) (some : 0 < n) {P : Type 0} (call : ℕ → P → Reply P) (view : P → Place) (Ok : P → Type 0)
-    (A : Answers M n call view Ok) (p : P) (ok : Ok p) (starts : view p ≡ first M) (bs : ℕ → ℕ) where
+module _ (M : Machine) (C : Coded M) (n : ℕ) (some : 0 < n) {P : Type 0} (call : ℕ → P → Reply P) (view : P → Place) (Can : ℕ → Type 0) (Ok : P → Type 0)
+    (A : Answers M n call view Can Ok) (p : P) (ok : Ok p) (starts : view p ≡ first M) (bs : ℕ → ℕ) (can : (i : ℕ) → Can (bs i)) where
   all-counted : {ws : List (List ℕ)} {t z : ℕ} → Gathers call bs 0 p ws t z → Counted (trails M n (M .fresh)) ws t z
-  all-counted g = rw (ap (passing M n) starts ∙ whole M C n some) at (gathered M C n call view Ok A bs ok g)
+  all-counted g = rw (ap (passing M n) starts ∙ whole M C n some) at (gathered M C n call view Can Ok A bs can ok g)
 
   -- S3: what is found, in order, is the list of all bad schedules
   pub finds-all : {ws : List (List ℕ)} {t z : ℕ} → Gathers call bs 0 p ws t z → ws ≡ allBad M n
@@ -62,7 +62,7 @@ module _ (M : Machine) (C : Coded M) (n : ℕ) (some : 0 < n) {P : Type 0} (call
 
   -- S4: calls with budgets above 0 come to end
   pub ends-some-time : ((i : ℕ) → 0 < bs i) → (ws : List (List ℕ)) × (t : ℕ) × (z : ℕ) × Gathers call bs 0 p ws t z
-  ends-some-time b = ends M C n call view Ok A bs b 0 p ok
+  ends-some-time b = ends M C n call view Can Ok A bs can b 0 p ok
 
   -- S5: if no call counted a try refused for size, the list is that of the machine without limits
   pub without-limits : (N : Machine) (R : M .Conf → N .Conf → Type 0) → Follows M N R → {ws : List (List ℕ)} {t : ℕ} → Gathers call bs 0 p ws t 0 → ws ≡ allBad N n

@@ -14,6 +14,7 @@ use Rattle.walk.specs.Gathers.{Gathers, ended, stopped, met}
 use Rattle.walk.specs.Trail.{trails, allBad}
 use Rattle.walk.specs.Place.{first, settle, at, unbroken, fits}
 use Rattle.walk.specs.Walk.{reply, after, walk, search}
+use Rattle.walk.specs.Answers.{AnyBudget}
 use Rattle.walk.proofs.Claims.{itself, finds-all, tries-all}
 
 abbrev tryToy : ℕ → ℕ → Outcome ℕ
@@ -75,9 +76,9 @@ toy-listing = stopped refl (met refl (met refl (ended refl)))
 toy-all : ((0 ∷ 0 ∷ 1 ∷ []) ∷ (0 ∷ 1 ∷ []) ∷ []) ≡ allBad toy 3
 unfolding fits unbroken
 toy-all =
-    finds-all toy toy-coded 3 (lit< tt) (search toy 3) (λ q. q) (λ q. fits toy 3 q ≡ true) (itself toy 3) (first toy) refl refl (λ i. 3) toy-listing
+    finds-all toy toy-coded 3 (lit< tt) (search toy 3) (λ q. q) AnyBudget (λ q. fits toy 3 q ≡ true) (itself toy 3) (first toy) refl refl (λ i. 3) (λ i. tt) toy-listing
 
 toy-tries : 9 ≡ length (trails toy 3 0)
 unfolding fits unbroken
 toy-tries =
-    tries-all toy toy-coded 3 (lit< tt) (search toy 3) (λ q. q) (λ q. fits toy 3 q ≡ true) (itself toy 3) (first toy) refl refl (λ i. 3) toy-listing
+    tries-all toy toy-coded 3 (lit< tt) (search toy 3) (λ q. q) AnyBudget (λ q. fits toy 3 q ≡ true) (itself toy 3) (first toy) refl refl (λ i. 3) (λ i. tt) toy-listing

@@ -1,5 +1,6 @@
 -- The search theorem over any machine. To cite: Claims (S2 to S5), Pass, Placed, Fit, Unique (S2), Member, Rises, Only (what the list
--- of all bad schedules is, and that it is the only such list), Array, Laws and Loop (for a program), Example (a machine worked through).
+-- of all bad schedules is, and that it is the only such list), Array, Laws, Loop (for a program),
+-- List (a listing is calls of the search from answer to answer), Example (a machine worked through).
 pub mod Lists
 pub mod Codes
 pub mod Turn
@@ -15,5 +16,6 @@ pub mod Only
 pub mod Laws
 pub mod Array
 pub mod Loop
+pub mod List
 pub mod Unique
 pub mod Example

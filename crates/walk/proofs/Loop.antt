@@ -65,7 +65,7 @@ put-zero cs j = go (ltb j (length cs)) refl
     go true e = getD-set-same cs j 0 0 (ltb-true _ _ e)
     go false e = List·getD-eq-default (set cs j 0) 0 (rw length-set (ltb-false j (length cs) e))
 
-pop-zero : (cs : List ℕ) (j : ℕ) → ZeroPast cs (suc j) → ZeroPast (set cs j 0) j
+pub pop-zero : (cs : List ℕ) (j : ℕ) → ZeroPast cs (suc j) → ZeroPast (set cs j 0) j
 pop-zero cs j h i l = go (eqb i j) refl
   where
     go : (b : Bool) → eqb i j ≡ b → getD (set cs j 0) i 0 ≡ 0
@@ -74,11 +74,11 @@ pop-zero cs j h i l = go (eqb i j) refl
         let ne : i ≡ j → ⊥ = eqb-false i j e in
         getD-set-other cs j i 0 0 ne ∙ h i (omega arith)
 
-push-zero : (cs : List ℕ) (j v : ℕ) → ZeroPast cs j → ZeroPast (set cs j v) (suc j)
+pub push-zero : (cs : List ℕ) (j v : ℕ) → ZeroPast cs j → ZeroPast (set cs j v) (suc j)
 push-zero cs j v h i l = getD-set-other cs j i v 0 (omega arith) ∙ h i (omega arith)
 
 module _ (M : Machine) (n : ℕ) where
-  settle-clean : (cs : List ℕ) (j : ℕ) (ks : List ℕ) → ZeroPast cs j → Clean (settledIn M cs j ks)
+  pub settle-clean : (cs : List ℕ) (j : ℕ) (ks : List ℕ) → ZeroPast cs j → Clean (settledIn M cs j ks)
   unfolding settledIn
   settle-clean cs zero [] h = h
   settle-clean cs zero (k ∷ ks) h = h

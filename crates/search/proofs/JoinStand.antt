@@ -1,0 +1,97 @@
+-- How the program stands at a place of the walk: its stack has the configuration of each shorter schedule, its table is the one
+-- there with perhaps some terms more, its records are the events there. Going back keeps all that.
+use Prim.Native.Nat.{ℕ, zero, suc, _+_, _*_, _<_, _≤_}
+use mathlib.Core.Bool.{true}
+use mathlib.Core.List.{List, [], _∷_, _++_, List·Memᴰ·head}
+use mathlib.Core.Path.{_≡_, refl, sym, ap, _∙_}
+use native.Mathlib.Omega.{arith}
+use lib.ListN.{length, getD, set, length-set}
+use Rattle.terms.proofs.Back.{Grown, grown-then}
+use Rattle.model.specs.declared.records.Model.{Model}
+use Rattle.state.specs.declared.control.Control.{Control}
+use Rattle.state.specs.declared.control.Frame.{Frame}
+use Rattle.rules.specs.Event.{recordOf, recordPut}
+use Rattle.rules.specs.Happened.{happenedOn}
+use Rattle.rules.specs.declared.event.Happening.{Happening}
+use Rattle.rules.specs.declared.work.Labels.{Labels}
+use Rattle.machine.specs.Claim.{breaksClaim}
+use Rattle.machine.specs.Judge.{breaksOn}
+use Rattle.walk.specs.Machine.{Machine}
+use Rattle.walk.specs.Place.{from, at, unbroken}
+use Rattle.walk.specs.Array.{Spot, stackOf, settledIn}
+use Rattle.walk.proofs.Codes.{from-mem}
+use Rattle.walk.proofs.Fit.{unbroken-below}
+use Rattle.walk.proofs.Array.{stack-set}
+use Rattle.walk.proofs.Loop.{Clean}
+use Rattle.walk.proofs.Loop as L
+use Rattle.law.specs.Machines.{LabelsConf}
+use Rattle.search.specs.Labels.{realCodes, labels}
+use Rattle.search.specs.Enter.{noControl}
+use Rattle.search.proofs.Codes.{isNext, mem-code, code-next, none-next}
+use Rattle.search.proofs.Along.{Sane, at-grows, at-events}
+
+-- what judging over records gives: records hold events, a record put behind them holds one more, and the test over records is
+-- the claim over the events
+pub record Judging (m : Model) : Type 1 where
+  pub Holds : List ℕ → List Happening → Type 0
+  pub none : (l : List ℕ) → Holds l []
+  pub less : (l : List ℕ) (hs : List Happening) (h : Happening) → Holds l (hs ++ (h ∷ [])) → Holds l hs
+  pub put : (l : List ℕ) (hs : List Happening) (f : Frame) (k : ℕ) (b : Labels) → length hs * 12 + 12 ≤ length l → Holds l hs →
+      Holds (recordPut l (length hs) (recordOf (happenedOn f (m .actions) (m .lengths) k b))) (hs ++ (happenedOn f (m .actions) (m .lengths) k b ∷ []))
+  pub long : (l : List ℕ) (i : ℕ) (h : Happening) → length (recordPut l i (recordOf h)) ≡ length l
+  pub judged : (l : List ℕ) (hs : List Happening) (h : Happening) → Holds l (hs ++ (h ∷ [])) → breaksOn l (length hs) (m .claim) ≡ breaksClaim (m .claim) hs h
+
+module _ (m : Model) (start : Sane (labels m .fresh)) (J : Judging m) where
+  abbrev M : Machine
+  M = labels m
+
+  -- the configuration at the first j codes
+  abbrev pub there : List ℕ → ℕ → LabelsConf
+  there cs j = at M (stackOf cs j)
+
+  -- at the schedule of the first j codes; `filled` is how many terms the table may have
+  pub record Parts (stack : List Control) (t : List ℕ) (filled : ℕ) (l : List ℕ) (cs : List ℕ) (j : ℕ) : Type 0 where
+    pub good : unbroken M (stackOf cs j) ≡ true
+    pub controls : (i : ℕ) → i ≤ j → getD stack i noControl ≡ there cs i .control
+    pub grown : Grown (there cs j .table) (there cs j .control .count) t filled
+    pub holds : J .Holds l (there cs j .events)
+
+  module _ (stack : List Control) (t : List ℕ) (filled : ℕ) (l : List ℕ) where
+    -- one step back
+    parts-back : (cs : List ℕ) (j : ℕ) → Parts stack t filled l cs (suc j) → Parts stack t filled l (set cs j 0) j
+    unfolding stackOf
+    parts-back cs j p =
+        let e : stackOf (set cs j 0) j ≡ stackOf cs j = stack-set cs j j 0 (omega arith) in
+        let c : at M (stackOf (set cs j 0) j) ≡ at M (stackOf cs j) = ap (at M) e in
+        record {
+          good = rw e (unbroken-below M 0 (getD cs j 0) (stackOf cs j) (p .good));
+          controls = λ i h. p .controls i (omega arith) ∙ ap (λ (up : List ℕ). at M up .control) (sym (stack-set cs i j 0 h));
+          grown = rw c (grown-then (at-grows m start (getD cs j 0) (stackOf cs j)) (p .grown));
+          holds = rw c (at-events m start (J .Holds l) (J .less l) (getD cs j 0) (stackOf cs j) (p .holds));
+        }
+
+    -- at a place that names its next pair
+    pub record Stands (n : ℕ) (q : Spot) : Type 0 where
+      pub parts : Parts stack t filled l (q .codes) (q .len)
+      pub long : length (q .codes) ≡ 24
+      pub clean : Clean q
+      pub short : q .len < n
+      pub next : isNext (q .next) ≡ true
+
+    settle-stands : (n : ℕ) (cs : List ℕ) (j : ℕ) (ks : List ℕ) (i : ℕ) → from i realCodes ≡ ks → Parts stack t filled l cs j → length cs ≡ 24 →
+        L.ZeroPast cs j → j < n →
+        Stands n (settledIn M cs j ks)
+    unfolding settledIn
+    settle-stands n cs zero [] i e p h z s = record { parts = p; long = h; clean = z; short = s; next = none-next }
+    settle-stands n cs zero (k ∷ ks) i e p h z s =
+        record { parts = p; long = h; clean = z; short = s; next = code-next k (mem-code k (from-mem i realCodes (rw e (List·Memᴰ·head refl)))) }
+    settle-stands n cs (suc j) [] i e p h z s =
+        settle-stands n (set cs j 0) j (from (suc (getD cs j 0)) realCodes) (suc (getD cs j 0)) refl (parts-back cs j p) (length-set cs j 0 ∙ h)
+        (L.pop-zero cs j z) (omega arith)
+    settle-stands n cs (suc j) (k ∷ ks) i e p h z s =
+        record { parts = p; long = h; clean = z; short = s; next = code-next k (mem-code k (from-mem i realCodes (rw e (List·Memᴰ·head refl)))) }
+
+    -- settled from any number on
+    pub stands-from : (n : ℕ) (cs : List ℕ) (j i : ℕ) → Parts stack t filled l cs j → length cs ≡ 24 → L.ZeroPast cs j → j < n →
+        Stands n (settledIn M cs j (from i realCodes))
+    stands-from n cs j i p h z s = settle-stands n cs j (from i realCodes) i refl p h z s

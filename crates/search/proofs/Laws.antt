@@ -1,0 +1,171 @@
+-- One turn of each loop: what is still to come, and what the end gives.
+use Prim.Native.Nat.{ℕ, zero, suc, _+_, _-_, _%_, _<_, _≤_}
+use mathlib.Core.Bool.{Bool, true, false}
+use mathlib.Core.List.{List, _++_, append-nil, append-assoc}
+use mathlib.Core.Path.{_≡_, refl, sym, ap, subst, _∙_}
+use native.Mathlib.Numerals.{sub-one}
+use native.Mathlib.Nat.{sub-add-eq, sub-eq-zero-of-le}
+use native.Mathlib.Omega.{arith}
+use lib.ListN.{length, getD, take, drop, set, drop-of-length-le}
+use lib.Seq.{drop-cons, take-suc-set, take-all}
+use lib.Dec.{ltb}
+use borrow.Author.Tests.{ltb-true}
+use Rattle.terms.specs.Base.{pick}
+use Rattle.model.specs.declared.records.Model.{Model}
+use Rattle.state.specs.declared.control.Control.{Control}
+use Rattle.rules.specs.Step.{stepOn}
+use Rattle.search.specs.Place.{atCode, levelOf, codePut, codeIn, popped, isDone, settleIn, settled}
+use Rattle.law.specs.Rules.{layoutOf}
+use Rattle.search.specs.Enter.{controlAt, Climb, Climbed, entered, enterStep, enterIn}
+use Rattle.search.specs.Turn.{Lent, lent, Sheets, turnOn}
+use Rattle.search.specs.Search.{Scene, turnedOn, walkIn, walkOn}
+use Rattle.search.specs.declared.place.Place.{Place}
+use Rattle.search.specs.declared.enter.Entered.{Entered}
+use Rattle.search.specs.declared.turn.Walk.{Walk}
+use Rattle.search.specs.declared.turn.Turned.{Turned}
+use Rattle.search.specs.declared.turn.Task.{Task}
+use Rattle.search.proofs.Falls.{turnsLeft, turn-falls}
+
+-- a level below 24 is the length itself
+pub level-is : (n : ℕ) → n < 24 → levelOf n ≡ n
+level-is n h = omega arith
+
+pub put-at : (cs : List ℕ) (i c : ℕ) → i < 24 → codePut cs i c ≡ set cs i (c % 256)
+unfolding codePut
+put-at cs i c h = rw (level-is i h)
+
+pub code-at : (cs : List ℕ) (i : ℕ) → i < 24 → codeIn cs i ≡ getD cs i 0
+unfolding codeIn
+code-at cs i h = rw (level-is i h)
+
+-- settled
+done-by : (b : Bool) (n : ℕ) → pick b false (ltb 0 n) ≡ true → 0 < n
+done-by true n e = let z : _≡_ {A = ℕ} 0 1 = ap (λ (b : Bool). pick b 1 0) e in absurd (omega arith)
+done-by false n e = ltb-true 0 n e
+
+pub done-long : (p : Place) → isDone p ≡ true → 0 < p .length
+unfolding isDone
+done-long p e = done-by (ltb (p .next) 164) (p .length) e
+
+popped-length : (p : Place) → popped p .length ≡ p .length - 1
+unfolding popped
+popped-length p = refl
+
+pub settle-more : (p : Place) → isDone p ≡ true → settled p ≡ settled (popped p)
+unfolding settled settleIn
+settle-more p e = go (p .length) (done-long p e) ∙ ap (λ n. settleIn n (popped p)) (sym (popped-length p))
+  where
+    go : (n : ℕ) → 0 < n → settleIn n p ≡ settleIn (n - 1) (popped p)
+    go zero h = absurd (omega arith)
+    go (suc n) h = rw (e, sub-one)
+
+pub settle-end : (p : Place) → isDone p ≡ false → settled p ≡ p
+unfolding settled settleIn
+settle-end p e = go (p .length)
+  where
+    go : (n : ℕ) → settleIn n p ≡ p
+    go zero = refl
+    go (suc n) = rw e
+
+-- enter
+module _ (m : Model) (p : Place) (i : ℕ) (x : Climb) where
+  abbrev further : (Climb → Climbed Entered) → Climbed Entered
+  further rest =
+      enterStep
+      (stepOn (x .table) (controlAt (x .stack) i) (layoutOf m) (m .«machine_count») (codeIn (p .codes) i))
+      rest
+      (m .claim)
+      i
+      (codeIn (p .codes) i)
+      x
+
+  enter-step : (n : ℕ) → 0 < n → enterIn n m p i x ≡ further (λ y. enterIn (n - 1) m p (i + 1) y)
+  unfolding enterIn
+  enter-step zero h = absurd (omega arith)
+  enter-step (suc n) h = rw sub-one
+
+  pub enter-more : (n : ℕ) → i < n → enterIn (n - i) m p i x ≡ further (λ y. enterIn (n - (i + 1)) m p (i + 1) y)
+  enter-more n h = rw (sub-add-eq, enter-step (n - i) (omega arith))
+
+  pub enter-end : (n : ℕ) → n ≤ i → enterIn (n - i) m p i x ≡ entered true (atCode (x .place) (p .next)) x
+  unfolding enterIn
+  enter-end n h = rw sub-eq-zero-of-le
+
+-- codes_in: the codes copied already, and those still to come
+module _ (codes space : List ℕ) (i : ℕ) where
+  pub copy-more : i < length codes → i + 1 < length space
+      → take i codes ++ drop (i + 1) space ≡ take (i + 1) (set codes i (getD space (i + 1) 0)) ++ drop (i + 1 + 1) space
+  copy-more h g =
+      let a : i + 1 ≡ suc i = omega arith in
+      let b : i + 1 + 1 ≡ suc (suc i) = omega arith in
+      rw (drop-cons space (i + 1) 0 g, b, a, take-suc-set codes i (getD space (suc i) 0) h, append-assoc)
+
+  pub copy-end : length codes ≤ i → length space ≤ i + 1 → take i codes ++ drop (i + 1) space ≡ codes
+  copy-end h g = rw (take-all i codes h, drop-of-length-le space g, append-nil)
+
+-- a turn leaves fewer turns
+pub turn-less : (w : Walk) (r : Turned) (t₁ l₁ room₁ t l room : List ℕ) (s : Control) (g : Sheets) (k : Task)
+    → lent r t₁ l₁ room₁ ≡ turnOn t l room s w g k → w .going ≡ true → turnsLeft (r .walk) < turnsLeft w
+turn-less w r t₁ l₁ room₁ t l room s g k e h =
+    rw h (subst (λ (y : Lent Turned). turnsLeft (y .out .walk) < w .left + 1) (sym e) (turn-falls w t l room s g k))
+
+-- the walk
+module _ (m : Model) (k : Task) where
+  turned-falls : (x : Scene) → turnsLeft (turnedOn m k x .walk) < x .walk .left + 1
+  unfolding turnedOn
+  turned-falls x = turn-falls (x .walk) (x .table) (x .records) (x .room) _ _ k
+
+  rests : (j : ℕ) (x : Scene) → x .walk .going ≡ false → walkIn j m k x ≡ x
+  unfolding walkIn
+  rests zero x e = refl
+  rests (suc j) x e = rw e
+
+  goes : (j : ℕ) (x : Scene) → x .walk .going ≡ true → 0 < j → walkIn j m k x ≡ walkIn (j - 1) m k (turnedOn m k x)
+  unfolding walkIn
+  goes zero x e h = absurd (omega arith)
+  goes (suc j) x e h = rw (e, sub-one)
+
+  starts : (n : ℕ) (x : Scene) → x .walk .going ≡ true → walkIn (suc n) m k x ≡ walkIn n m k (turnedOn m k x)
+  unfolding walkIn
+  starts n x e = rw e
+
+  none-left : (b : Bool) (x : Scene) → x .walk .going ≡ b → turnsLeft (x .walk) ≤ 0 → x .walk .going ≡ false
+  none-left true x e h = absurd (let o : x .walk .left + 1 ≤ 0 = rw e at h in omega arith)
+  none-left false x e h = e
+
+  enough-by : (b : Bool) (n j : ℕ) (x : Scene) → x .walk .going ≡ b
+      → ((i : ℕ) (y : Scene) → turnsLeft (y .walk) ≤ n → turnsLeft (y .walk) ≤ i → walkIn n m k y ≡ walkIn i m k y)
+      → turnsLeft (x .walk) ≤ suc n → turnsLeft (x .walk) ≤ j → walkIn (suc n) m k x ≡ walkIn j m k x
+  enough-by false n j x e f h g = rests (suc n) x e ∙ sym (rests j x e)
+  enough-by true n j x e f h g =
+      let a : x .walk .left + 1 ≤ suc n = rw e at h in
+      let b : x .walk .left + 1 ≤ j = rw e at g in
+      starts n x e
+      ∙ f (j - 1) (turnedOn m k x) (omega (arith, turned-falls x)) (omega (arith, turned-falls x))
+      ∙ sym (goes j x e (omega arith))
+
+  -- turns beyond those that a walk can take change nothing
+  enough : (n j : ℕ) (x : Scene) → turnsLeft (x .walk) ≤ n → turnsLeft (x .walk) ≤ j → walkIn n m k x ≡ walkIn j m k x
+  enough zero j x h g =
+      let e : x .walk .going ≡ false = none-left (x .walk .going) x refl h in
+      rests zero x e ∙ sym (rests j x e)
+  enough (suc n) j x h g = enough-by (x .walk .going) n j x refl (λ i y. enough n i y) h g
+
+  turns-most : (b : Bool) (n : ℕ) → pick b (n + 1) 0 ≤ n + 1
+  turns-most true n = omega arith
+  turns-most false n = omega arith
+
+  pub walk-more : (x : Scene) → x .walk .going ≡ true → walkOn m k x ≡ walkOn m k (turnedOn m k x)
+  unfolding walkOn
+  walk-more x e =
+      goes (x .walk .left + 1) x e (omega arith)
+      ∙ enough
+      (x .walk .left + 1 - 1)
+      (turnedOn m k x .walk .left + 1)
+      (turnedOn m k x)
+      (omega (arith, turned-falls x))
+      (turns-most (turnedOn m k x .walk .going) (turnedOn m k x .walk .left))
+
+  pub walk-end : (x : Scene) → x .walk .going ≡ false → walkOn m k x ≡ x
+  unfolding walkOn
+  walk-end x e = rests (x .walk .left + 1) x e

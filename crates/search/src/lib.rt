@@ -1,0 +1,12 @@
+// The search: a walk in dictionary order over all schedules up to a bound, from a place, within a budget.
+//
+//   place    a schedule and the next code to try
+//   answer   what a search answers
+//   turn     one turn of the walk: codes refused at sight are passed together, then one code is tried
+//   enter    a place entered by making the steps of its schedule
+//   search   the first bad schedule from a place; the bad schedules from a place, as many as lent room takes
+pub mod answer;
+pub mod enter;
+pub mod place;
+pub mod search;
+pub mod turn;

@@ -1,0 +1,561 @@
+-- A listing is calls of the search from answer to answer, and the search is a listing with room for one. What a listing passes is a
+-- first part of the tries ahead, and the words it gives are the bad ones among them.
+use Prim.Native.Nat.{ℕ, zero, suc, _+_, _-_, _≤_, _<_}
+use mathlib.Core.Path.{_≡_, refl, sym, ap, _∙_, subst}
+use mathlib.Core.Bool.{Bool, true, false}
+use mathlib.Core.List.{List, [], _∷_, _++_, append-assoc, append-nil, List·Memᴰ, List·Memᴰ·head, List·Memᴰ·tail}
+use native.Mathlib.Omega.{arith}
+use lib.ListN.{length, getD, set, take, length-append}
+use lib.Seq.{take-at}
+use lib.Dec.{ltb, eqb}
+use borrow.Author.Tests.{ne-eqb}
+use Rattle.walk.specs.Base.{All, pick}
+use Rattle.walk.specs.Machine.{Machine, Coded, Outcome, refused, tooBig, goes, breaks}
+use Rattle.walk.specs.Reply.{Kind, found, stop, end, Reply}
+use Rattle.walk.specs.Trail.{Mark, plain, sized, bad, markOf, Try, trails, badAnd, badIn}
+use Rattle.walk.specs.Place.{Place, over, from, placeOf, first, at}
+use Rattle.walk.specs.Passed.{passing, Met, met-bad, Passed}
+use Rattle.walk.specs.Passed as P
+use Rattle.walk.specs.Walk.{reply, search}
+use Rattle.walk.specs.Array.{Spot, stackOf, view, wordOf, settledIn, afterIn, turnIn, walkIn, searchIn}
+use Rattle.walk.specs.List.{Close, full, spent, done, Listed, closed, withWords, withCounts, listTurn, listWalk, listIn, asOne, thenList, onFrom, thenOn, listOn, listAll, Closes, no-room, used-up, no-more, ListPassed}
+use Rattle.walk.proofs.Codes.{from-head, from-past, from-zero, from-mem}
+use Rattle.walk.specs.Answers.{AnyBudget, Answers, seen}
+use Rattle.walk.proofs.Lists.{all-at, bad-append, sized-append}
+use Rattle.walk.proofs.Loop.{settled-here, Clean, settle-clean, search-clean}
+use Rattle.walk.proofs.Gather.{at-found, at-stop, at-end, Counted, one-call}
+use Rattle.walk.proofs.Array.{Ok, program}
+use Rattle.walk.proofs.Placed.{whole}
+use Rattle.walk.proofs.Member.{mem-trails}
+use Rattle.walk.proofs.Claims.{call-passes}
+
+one-on : (s t : ℕ) → suc s + t ≡ suc (s + t)
+one-on s t = omega arith
+
+none-on : (t : ℕ) → 0 + t ≡ t
+none-on t = omega arith
+
+-- the place names the next pair itself: to find the next pair from it changes nothing
+abbrev pub Settled : Machine → Spot → Type 0
+Settled M q = settledIn M (q .codes) (q .len) (from (q .next) (M .codes)) ≡ q
+
+module _ (M : Machine) (C : Coded M) (n : ℕ) where
+  pub settle-twice : (cs : List ℕ) (j : ℕ) (ks : List ℕ) (i : ℕ) → from i (M .codes) ≡ ks → Settled M (settledIn M cs j ks)
+  unfolding settledIn
+  settle-twice cs zero [] i e = rw (from-past (M .none) (M .codes) (C .below))
+  settle-twice cs zero (k ∷ ks) i e = rw (from-head (M .codes) (C .rise) i k ks e .0)
+  settle-twice cs (suc j) [] i e = settle-twice (set cs j 0) j (from (suc (getD cs j 0)) (M .codes)) (suc (getD cs j 0)) refl
+  settle-twice cs (suc j) (k ∷ ks) i e = rw (from-head (M .codes) (C .rise) i k ks e .0)
+
+  pub after-settled : (q : Spot) (o : Outcome (M .Conf)) → Settled M (afterIn M n q o)
+  unfolding afterIn
+  after-settled q refused = settle-twice (q .codes) (q .len) (from (suc (q .next)) (M .codes)) (suc (q .next)) refl
+  after-settled q tooBig = settle-twice (q .codes) (q .len) (from (suc (q .next)) (M .codes)) (suc (q .next)) refl
+  after-settled q (goes d) = go (ltb (suc (q .len)) n)
+    where
+      go : (b : Bool) →
+          Settled M (pick b (settledIn M (set (q .codes) (q .len) (q .next)) (suc (q .len)) (M .codes))
+          (settledIn M (q .codes) (q .len) (from (suc (q .next)) (M .codes))))
+      go true = settle-twice (set (q .codes) (q .len) (q .next)) (suc (q .len)) (M .codes) 0 (from-zero (M .codes))
+      go false = settle-twice (q .codes) (q .len) (from (suc (q .next)) (M .codes)) (suc (q .next)) refl
+  after-settled q breaks = settle-twice (q .codes) (q .len) (from (suc (q .next)) (M .codes)) (suc (q .next)) refl
+
+  turn-settled : (m : Mark) (w : List ℕ) (q : Spot) (rest : Spot → ℕ → ℕ → Reply Spot) (t z : ℕ) → Settled M q →
+      ((t′ z′ : ℕ) → Settled M (rest q t′ z′ .place)) →
+      Settled M (turnIn m w q rest t z .place)
+  turn-settled plain w q rest t z h ih = ih (suc t) z
+  turn-settled sized w q rest t z h ih = ih (suc t) (suc z)
+  turn-settled bad w q rest t z h ih = h
+
+  choose-settled : (b : Bool) (x y : Reply Spot) → Settled M (x .place) → Settled M (y .place) → Settled M (pick b x y .place)
+  choose-settled true x y h k = h
+  choose-settled false x y h k = k
+
+  pub walk-settled : (b : ℕ) (q : Spot) (t z : ℕ) → Settled M q → Settled M (walkIn M b n q t z .place)
+  unfolding walkIn
+  walk-settled zero q t z h = choose-settled (eqb (q .next) (M .none)) (reply end t z q) (reply stop t z q) h h
+  walk-settled (suc b) q t z h =
+      let o : Outcome (M .Conf) = M .try (at M (stackOf (q .codes) (q .len))) (q .next) in
+      let k : Settled M (afterIn M n q o) = after-settled q o in
+      choose-settled (eqb (q .next) (M .none)) (reply end t z q) (turnIn (markOf o) (wordOf q) (afterIn M n q o) (walkIn M b n) t z) h
+      (turn-settled (markOf o) (wordOf q) (afterIn M n q o) (walkIn M b n) t z k (λ t′ z′. walk-settled b (afterIn M n q o) t′ z′ k))
+
+  -- the walk to the first answer, and then the listing from there on; u is the budget with the tries made before
+  abbrev thenWalk : ℕ → ℕ → Kind → ℕ → ℕ → Spot → Listed Spot
+  thenWalk r u (found w) t z q = withWords (w ∷ []) (listWalk M (u - t) n q r t z)
+  thenWalk r u stop t z q = closed spent t z q
+  thenWalk r u end t z q = closed done t z q
+
+  abbrev walkFrom : ℕ → ℕ → Reply Spot → Listed Spot
+  walkFrom r u a = thenWalk r u (a .kind) (a .tries) (a .sizes) (a .place)
+
+  turn-first : (m : Mark) (w : List ℕ) (q : Spot) (r b t z : ℕ) →
+      ((s y : ℕ) → listWalk M b n q (suc r) s y ≡ walkFrom r (b + s) (walkIn M b n q s y)) →
+      listTurn m w q r (listWalk M b n) t z ≡ walkFrom r (suc b + t) (turnIn m w q (walkIn M b n) t z)
+  turn-first plain w q r b t z ih =
+      let e : b + suc t ≡ suc b + t = omega arith in
+      ih (suc t) z ∙ ap (λ (u : ℕ). walkFrom r u (walkIn M b n q (suc t) z)) e
+  turn-first sized w q r b t z ih =
+      let e : b + suc t ≡ suc b + t = omega arith in
+      ih (suc t) (suc z) ∙ ap (λ (u : ℕ). walkFrom r u (walkIn M b n q (suc t) (suc z))) e
+  turn-first bad w q r b t z ih =
+      let e : b ≡ suc b + t - suc t = omega arith in
+      ap (λ (x : ℕ). withWords (w ∷ []) (listWalk M x n q r (suc t) z)) e
+
+  choose-first : (b : Bool) (r u : ℕ) (x y : Listed Spot) (v w : Reply Spot) → x ≡ walkFrom r u v → y ≡ walkFrom r u w → pick b x y ≡ walkFrom r u (pick b v w)
+  choose-first true r u x y v w e f = e
+  choose-first false r u x y v w e f = f
+
+  walk-first : (b : ℕ) (q : Spot) (r t z : ℕ) → listWalk M b n q (suc r) t z ≡ walkFrom r (b + t) (walkIn M b n q t z)
+  unfolding listWalk walkIn
+  walk-first zero q r t z = choose-first (eqb (q .next) (M .none)) r (0 + t) _ _ (reply end t z q) (reply stop t z q) refl refl
+  walk-first (suc b) q r t z =
+      let o : Outcome (M .Conf) = M .try (at M (stackOf (q .codes) (q .len))) (q .next) in
+      choose-first (eqb (q .next) (M .none)) r (suc b + t) _ _ (reply end t z q) (turnIn (markOf o) (wordOf q) (afterIn M n q o) (walkIn M b n) t z) refl
+      (turn-first (markOf o) (wordOf q) (afterIn M n q o) r b t z (λ s y. walk-first b (afterIn M n q o) r s y))
+
+  -- counts before are counts added
+  turn-counts : (m : Mark) (w : List ℕ) (q : Spot) (r : ℕ) (f : Spot → ℕ → ℕ → ℕ → Listed Spot) (s y t z : ℕ) →
+      ((r′ s′ y′ : ℕ) → f q r′ (s′ + t) (y′ + z) ≡ withCounts t z (f q r′ s′ y′)) →
+      listTurn m w q r f (s + t) (y + z) ≡ withCounts t z (listTurn m w q r f s y)
+  turn-counts plain w q r f s y t z ih = rw (one-on s t) at (ih (suc r) (suc s) y)
+  turn-counts sized w q r f s y t z ih = rw (one-on s t, one-on y z) at (ih (suc r) (suc s) (suc y))
+  turn-counts bad w q r f s y t z ih = ap (withWords (w ∷ [])) (rw (one-on s t) at (ih r (suc s) y))
+
+  choose-counts : (b : Bool) (t z : ℕ) (x y v w : Listed Spot) → x ≡ withCounts t z v → y ≡ withCounts t z w → pick b x y ≡ withCounts t z (pick b v w)
+  choose-counts true t z x y v w e f = e
+  choose-counts false t z x y v w e f = f
+
+  pub list-counts : (b : ℕ) (q : Spot) (r s y t z : ℕ) → listWalk M b n q r (s + t) (y + z) ≡ withCounts t z (listWalk M b n q r s y)
+  unfolding listWalk
+  list-counts zero q zero s y t z = refl
+  list-counts zero q (suc r) s y t z = choose-counts (eqb (q .next) (M .none)) t z _ _ (closed done s y q) (closed spent s y q) refl refl
+  list-counts (suc b) q zero s y t z = refl
+  list-counts (suc b) q (suc r) s y t z =
+      let o : Outcome (M .Conf) = M .try (at M (stackOf (q .codes) (q .len))) (q .next) in
+      choose-counts (eqb (q .next) (M .none)) t z _ _ (closed done s y q) (listTurn (markOf o) (wordOf q) (afterIn M n q o) r (listWalk M b n) s y) refl
+      (turn-counts (markOf o) (wordOf q) (afterIn M n q o) r (listWalk M b n) s y t z (λ r′ s′ y′. list-counts b (afterIn M n q o) r′ s′ y′ t z))
+
+  -- from the answer on: its place is settled, and its counts are added
+  from-answer : (k : Kind) (r u t z : ℕ) (q : Spot) → Settled M q → thenWalk r u k t z q ≡ thenList M n r u k t z q
+  unfolding listIn
+  from-answer (found w) r u t z q h =
+      let e : listWalk M (u - t) n q r t z ≡ withCounts t z (listWalk M (u - t) n q r 0 0) = rw (none-on t, none-on z) at (list-counts (u - t) q r 0 0 t z) in
+      ap (withWords (w ∷ [])) (e ∙ ap (λ (p : Spot). withCounts t z (listWalk M (u - t) n p r 0 0)) (sym h))
+  from-answer stop r u t z q h = refl
+  from-answer end r u t z q h = refl
+
+  -- a listing with room is a call of the search, and then a listing from its answer on
+  pub list-search : (k b : ℕ) (q : Spot) → listIn M n (suc k) b q ≡ onFrom M n k b (searchIn M n b q)
+  unfolding listIn searchIn
+  list-search k b q =
+      let s : Spot = settledIn M (q .codes) (q .len) (from (q .next) (M .codes)) in
+      let h : Settled M s = settle-twice (q .codes) (q .len) (from (q .next) (M .codes)) (q .next) refl in
+      let a : Reply Spot = walkIn M b n s 0 0 in
+      let e : b + 0 ≡ b = omega arith in
+      walk-first b s k 0 0 ∙ ap (λ (u : ℕ). walkFrom k u a) e ∙ from-answer (a .kind) k b (a .tries) (a .sizes) (a .place) (walk-settled b s 0 0 h)
+
+  -- with no room it is full at once, at the next pair
+  pub list-none : (b : ℕ) (q : Spot) → listIn M n 0 b q ≡ closed full 0 0 (settledIn M (q .codes) (q .len) (from (q .next) (M .codes)))
+  unfolding listIn listWalk
+  list-none zero q = refl
+  list-none (suc b) q = refl
+
+  one-by : (c : Kind) (b t z : ℕ) (q : Spot) → Settled M q → thenList M n 0 b c t z q ≡ asOne c t z q
+  one-by (found w) b t z q h =
+      let l : listIn M n 0 (b - t) q ≡ closed full 0 0 q = list-none (b - t) q ∙ ap (closed full 0 0) h in
+      rw (l, none-on t, none-on z)
+  one-by stop b t z q h = refl
+  one-by end b t z q h = refl
+
+  pub search-settled : (b : ℕ) (q : Spot) → Settled M (searchIn M n b q .place)
+  unfolding searchIn
+  search-settled b q =
+      walk-settled b (settledIn M (q .codes) (q .len) (from (q .next) (M .codes))) 0 0
+      (settle-twice (q .codes) (q .len) (from (q .next) (M .codes)) (q .next) refl)
+
+  -- with room for one it is the search
+  pub list-one : (b : ℕ) (q : Spot) →
+      listIn M n 1 b q ≡ asOne (searchIn M n b q .kind) (searchIn M n b q .tries) (searchIn M n b q .sizes) (searchIn M n b q .place)
+  list-one b q =
+      let a : Reply Spot = searchIn M n b q in
+      list-search 0 b q ∙ one-by (a .kind) b (a .tries) (a .sizes) (a .place) (search-settled b q)
+
+  -- a listing from a place is one from the next pair
+  list-settled : (k b : ℕ) (q : Spot) → listIn M n k b q ≡ listIn M n k b (settledIn M (q .codes) (q .len) (from (q .next) (M .codes)))
+  unfolding listIn
+  list-settled k b q =
+      ap (λ (s : Spot). listWalk M b n s k 0 0) (sym (settle-twice (q .codes) (q .len) (from (q .next) (M .codes)) (q .next) refl))
+
+  then-on : (c : Close) (k b t z : ℕ) (w : List ℕ) (ws : List (List ℕ)) (s y : ℕ) (q : Spot) →
+      withWords (w ∷ []) (withCounts t z (thenOn M n k (b - t) c ws s y q)) ≡ thenOn M n k b c (w ∷ ws) (s + t) (y + z) q
+  then-on full k b t z w ws s y q =
+      let e : b - t - s ≡ b - (s + t) = omega arith in
+      let l : Listed Spot = listIn M n k (b - (s + t)) q in
+      let f : l .tries + s + t ≡ l .tries + (s + t) = omega arith in
+      let g : l .sizes + y + z ≡ l .sizes + (y + z) = omega arith in
+      rw (e, f, g)
+  then-on spent k b t z w ws s y q = refl
+  then-on done k b t z w ws s y q = refl
+
+  first-then : (c : Kind) (j k b t z : ℕ) (q : Spot) → listIn M n (j + k) (b - t) q ≡ listOn M n k (b - t) (listIn M n j (b - t) q) →
+      thenList M n (j + k) b c t z q ≡ listOn M n k b (thenList M n j b c t z q)
+  first-then (found w) j k b t z q ih =
+      let l : Listed Spot = listIn M n j (b - t) q in
+      ap (λ (x : Listed Spot). withWords (w ∷ []) (withCounts t z x)) ih ∙ then-on (l .close) k b t z w (l .words) (l .tries) (l .sizes) (l .place)
+  first-then stop j k b t z q ih = refl
+  first-then end j k b t z q ih = refl
+
+  none-then : (k b : ℕ) (q : Spot) → listIn M n k b q ≡ listOn M n k b (listIn M n 0 b q)
+  none-then k b q =
+      let s : Spot = settledIn M (q .codes) (q .len) (from (q .next) (M .codes)) in
+      let l : Listed Spot = listIn M n k b s in
+      let e : b - 0 ≡ b = omega arith in
+      let f : l .tries + 0 ≡ l .tries = omega arith in
+      let g : l .sizes + 0 ≡ l .sizes = omega arith in
+      rw (list-none b q, e, f, g) (list-settled k b q)
+
+  -- a listing with more room is a listing, and then another one from its place on
+  pub list-then : (j k b : ℕ) (q : Spot) → listIn M n (j + k) b q ≡ listOn M n k b (listIn M n j b q)
+  list-then zero k b q = ap (λ (x : ℕ). listIn M n x b q) (omega arith) ∙ none-then k b q
+  list-then (suc j) k b q =
+      let a : Reply Spot = searchIn M n b q in
+      ap (λ (x : ℕ). listIn M n x b q) (omega arith) ∙ list-search (j + k) b q ∙
+      first-then (a .kind) j k b (a .tries) (a .sizes) (a .place) (list-then j k (b - a .tries) (a .place)) ∙
+      ap (listOn M n k b) (sym (list-search j b q))
+
+-- What listings pass
+
+abbrev pub listSeen : {P : Type 0} → (P → Place) → Listed P → Listed Place
+listSeen view r = record { close = r .close; words = r .words; tries = r .tries; sizes = r .sizes; place = view (r .place) }
+
+no-length : (l : List Try) → length l ≤ 0 → l ≡ []
+no-length [] h = refl
+no-length (x ∷ l) h = absurd (omega arith)
+
+module _ (M : Machine) (C : Coded M) (n m : ℕ) (room : n ≤ m) where
+  A : Answers M n (searchIn M n) view AnyBudget (Ok M n m)
+  A = program M C n m room
+
+  call : (b : ℕ) (q : Spot) → Ok M n m q → Passed M n b (passing M n (view q)) 0 0 (seen view (searchIn M n b q))
+  call b q ok = one-call M C n (searchIn M n) view AnyBudget (Ok M n m) A b q tt ok
+
+  place-none : (q : Spot) → searchIn M n 0 q .place ≡ settledIn M (q .codes) (q .len) (from (q .next) (M .codes))
+  unfolding searchIn walkIn
+  place-none q =
+      let s : Spot = settledIn M (q .codes) (q .len) (from (q .next) (M .codes)) in
+      go (eqb (s .next) (M .none)) s
+    where
+      go : (b : Bool) (s : Spot) → pick b (reply end 0 0 s) (reply stop 0 0 s) .place ≡ s
+      go true s = refl
+      go false s = refl
+
+  passes-none : (b : ℕ) (q : Spot) → Ok M n m q → ListPassed M n b 0 (passing M n (view q)) (listSeen view (listIn M n 0 b q))
+  passes-none b q ok =
+      let Q = call 0 q ok in
+      let e : Q .past ≡ [] = no-length (Q .past) (Q .within) in
+      let p : passing M n (view q) ≡ passing M n (view (settledIn M (q .codes) (q .len) (from (q .next) (M .codes)))) =
+      rw (e, place-none q) at (Q .parts) in
+      rw (list-none M C n b q) (record {
+        past = [];
+        parts = p;
+        words = refl;
+        tries = refl;
+        sizes = refl;
+        within = omega arith;
+        closes = no-room refl;
+      })
+
+  closes-on : (b k t : ℕ) (past rest : List Try) (w : List ℕ) (p : Place) (c : Close) → badIn past ≡ w ∷ [] → t ≡ length past → t ≤ b →
+      Closes M n (b - t) k rest p c → Closes M n b (suc k) (past ++ rest) p c
+  closes-on b k t past rest w p full e f l (no-room h) = no-room (rw (bad-append past rest, e) (omega (arith, h)))
+  closes-on b k t past rest w p spent e f l (used-up h i j) = used-up (rw (bad-append past rest, e) (omega (arith, h)))
+      (rw (length-append past rest) (omega (arith, i))) j
+  closes-on b k t past rest w p done e f l (no-more h i j) = no-more (rw (bad-append past rest, e) (omega (arith, h))) i j
+
+  last-stop : (b : ℕ) (past : List Try) (p : Place) {k : Kind} → Met M n b past p k → k ≡ stop → 0 < length (passing M n p)
+  last-stop b past p (met-bad e q h) f = absurd (let z : _≡_ {A = ℕ} 0 1 = cc in omega arith)
+  last-stop b past p (P.used-up h l m) f = m
+  last-stop b past p (P.no-more h e q) f = absurd (let z : _≡_ {A = ℕ} 0 1 = cc in omega arith)
+
+  last-end : (b : ℕ) (past : List Try) (p : Place) {k : Kind} → Met M n b past p k → k ≡ end → p ≡ placeOf M over
+  last-end b past p (met-bad e q h) f = absurd (let z : _≡_ {A = ℕ} 0 1 = cc in omega arith)
+  last-end b past p (P.used-up h l m) f = absurd (let z : _≡_ {A = ℕ} 0 1 = cc in omega arith)
+  last-end b past p (P.no-more h e q) f = q
+
+  by-kind : (c : Kind) (k b t z : ℕ) (l : List Try) (q : Spot) (Q : Passed M n b l 0 0 (reply c t z (view q))) →
+      ListPassed M n (b - t) k (passing M n (view q)) (listSeen view (listIn M n k (b - t) q)) →
+      ListPassed M n b (suc k) l (listSeen view (thenList M n k b c t z q))
+  by-kind (found w) k b t z l q Q R =
+      let h = at-found M n b (Q .past) (view q) w (Q .met) refl in
+      let i : t ≡ length (Q .past) = omega (arith, Q .tries) in
+      record {
+        past = Q .past ++ R .past;
+        parts = Q .parts ∙ ap (λ (r : List Try). Q .past ++ r) (R .parts) ∙ sym (append-assoc (Q .past) (R .past) _);
+        words = rw (bad-append (Q .past) (R .past), h .0, R .words);
+        tries = rw (length-append (Q .past) (R .past)) (omega (arith, i, R .tries));
+        sizes = rw (sized-append (Q .past) (R .past)) (omega (arith, Q .sizes, R .sizes));
+        within = rw (length-append (Q .past) (R .past)) (omega (arith, i, R .within, Q .within));
+        closes = closes-on b k t (Q .past) (R .past) w _ _ (h .0) i (omega (arith, i, Q .within)) (R .closes);
+      }
+  by-kind stop k b t z l q Q R =
+      let h = at-stop M n b (Q .past) (view q) (Q .met) refl in
+      record {
+        past = Q .past;
+        parts = Q .parts;
+        words = sym (h .0);
+        tries = omega (arith, Q .tries);
+        sizes = omega (arith, Q .sizes);
+        within = Q .within;
+        closes = used-up (rw (h .0) (omega arith)) (h .1) (last-stop b (Q .past) (view q) (Q .met) refl);
+      }
+  by-kind end k b t z l q Q R =
+      let h = at-end M n b (Q .past) (view q) (Q .met) refl in
+      record {
+        past = Q .past;
+        parts = Q .parts;
+        words = sym (h .0);
+        tries = omega (arith, Q .tries);
+        sizes = omega (arith, Q .sizes);
+        within = Q .within;
+        closes = no-more (rw (h .0) (omega arith)) (h .1) (last-end b (Q .past) (view q) (Q .met) refl);
+      }
+
+  -- S2 for a listing: what it passes, and that its words are the bad ones among that
+  pub list-passes : (k b : ℕ) (q : Spot) → Ok M n m q → ListPassed M n b k (passing M n (view q)) (listSeen view (listIn M n k b q))
+  list-passes zero b q ok = passes-none b q ok
+  list-passes (suc k) b q ok =
+      let a : Reply Spot = searchIn M n b q in
+      rw (list-search M C n k b q)
+      (by-kind (a .kind) k b (a .tries) (a .sizes) (passing M n (view q)) (a .place) (call b q ok)
+      (list-passes k (b - a .tries) (a .place) (A .on b q tt ok)))
+
+-- The listing with room for all
+
+bad-fewer : (l : List Try) → length (badIn l) ≤ length l
+bad-fewer [] = omega arith
+bad-fewer (t ∷ l) = go (t .mark) (bad-fewer l)
+  where
+    go : (m : Mark) → length (badIn l) ≤ length l → length (badAnd m (t .word) (badIn l)) ≤ suc (length l)
+    go plain h = omega arith
+    go sized h = omega arith
+    go bad h = omega arith
+
+closes-fuller : (M : Machine) (n b k : ℕ) (past : List Try) (p : Place) {c : Close} → Closes M n b k past p c → c ≡ full → length (badIn past) ≡ k
+closes-fuller M n b k past p (no-room h) e = h
+closes-fuller M n b k past p (used-up h i j) e = absurd (let z : _≡_ {A = ℕ} 0 1 = cc in omega arith)
+closes-fuller M n b k past p (no-more h i j) e = absurd (let z : _≡_ {A = ℕ} 0 1 = cc in omega arith)
+
+module _ (M : Machine) (C : Coded M) (n m : ℕ) (room : n ≤ m) where
+  -- places given back are good ones, with 0 past their schedules where the place taken in was so
+  ok-none : (b : ℕ) (q : Spot) → Ok M n m q → Ok M n m (settledIn M (q .codes) (q .len) (from (q .next) (M .codes)))
+  ok-none b q ok = subst (Ok M n m) (place-none M C n m room q) (program M C n m room .on 0 q tt ok)
+
+  ok-then : (k : Kind) (r b t z : ℕ) (q : Spot) → Ok M n m q → Ok M n m (listIn M n r (b - t) q .place) → Ok M n m (thenList M n r b k t z q .place)
+  ok-then (found w) r b t z q o i = i
+  ok-then stop r b t z q o i = o
+  ok-then end r b t z q o i = o
+
+  pub list-ok : (k b : ℕ) (q : Spot) → Ok M n m q → Ok M n m (listIn M n k b q .place)
+  list-ok zero b q ok = subst (λ (l : Listed Spot). Ok M n m (l .place)) (sym (list-none M C n b q)) (ok-none b q ok)
+  list-ok (suc k) b q ok =
+      let a : Reply Spot = searchIn M n b q in
+      let o : Ok M n m (a .place) = program M C n m room .on b q tt ok in
+      subst (λ (l : Listed Spot). Ok M n m (l .place)) (sym (list-search M C n k b q))
+      (ok-then (a .kind) k b (a .tries) (a .sizes) (a .place) o (list-ok k (b - a .tries) (a .place) o))
+
+  clean-then : (k : Kind) (r b t z : ℕ) (q : Spot) → Clean q → Clean (listIn M n r (b - t) q .place) → Clean (thenList M n r b k t z q .place)
+  clean-then (found w) r b t z q o i = i
+  clean-then stop r b t z q o i = o
+  clean-then end r b t z q o i = o
+
+  pub list-clean : (k b : ℕ) (q : Spot) → Clean q → Clean (listIn M n k b q .place)
+  list-clean zero b q h =
+      subst (λ (l : Listed Spot). Clean (l .place)) (sym (list-none M C n b q)) (settle-clean M n (q .codes) (q .len) (from (q .next) (M .codes)) h)
+  list-clean (suc k) b q h =
+      let a : Reply Spot = searchIn M n b q in
+      let o : Clean (a .place) = search-clean M n b q h in
+      subst (λ (l : Listed Spot). Clean (l .place)) (sym (list-search M C n k b q))
+      (clean-then (a .kind) k b (a .tries) (a .sizes) (a .place) o (list-clean k (b - a .tries) (a .place) o))
+
+  -- room for more than the budget is never full
+  pub never-full : (k b : ℕ) (q : Spot) → Ok M n m q → b < k → listIn M n k b q .close ≡ full → ⊥
+  never-full k b q ok h e =
+      let L = list-passes M C n m room k b q ok in
+      omega (arith, bad-fewer (L .past), L .within, closes-fuller M n b k (L .past) (view (listIn M n k b q .place)) (L .closes) e)
+
+  not-full : (c : Close) (k b : ℕ) (ws : List (List ℕ)) (t z : ℕ) (q : Spot) → (c ≡ full → ⊥) →
+      thenOn M n k b c ws t z q ≡ record { close = c; words = ws; tries = t; sizes = z; place = q }
+  not-full full k b ws t z q f = absurd (f refl)
+  not-full spent k b ws t z q f = refl
+  not-full done k b ws t z q f = refl
+
+  -- so with more than the budget the room does not matter
+  pub room-enough : (k b : ℕ) (q : Spot) → Ok M n m q → b < k → listIn M n k b q ≡ listAll M n b q
+  room-enough k b q ok h =
+      let l : Listed Spot = listAll M n b q in
+      let e : k ≡ b + 1 + (k - (b + 1)) = omega arith in
+      ap (λ (i : ℕ). listIn M n i b q) e ∙ list-then M C n (b + 1) (k - (b + 1)) b q ∙
+      not-full (l .close) (k - (b + 1)) b (l .words) (l .tries) (l .sizes) (l .place) (never-full (b + 1) b q ok (omega arith))
+
+  -- the whole is a listing that is not full; or one that is, and then the whole from its place on
+  pub all-same : (k b : ℕ) (q : Spot) → Ok M n m q → (listIn M n k b q .close ≡ full → ⊥) → listAll M n b q ≡ listIn M n k b q
+  all-same k b q ok f =
+      let l : Listed Spot = listIn M n k b q in
+      sym (room-enough (k + (b + 1)) b q ok (omega arith)) ∙ list-then M C n k (b + 1) b q ∙
+      not-full (l .close) (b + 1) b (l .words) (l .tries) (l .sizes) (l .place) f
+
+  then-full : (c : Close) (k b : ℕ) (ws : List (List ℕ)) (t z : ℕ) (q : Spot) → c ≡ full → thenOn M n k b c ws t z q ≡ withWords ws
+      (withCounts t z (listIn M n k (b - t) q))
+  then-full full k b ws t z q e = refl
+  then-full spent k b ws t z q e = absurd (let y : _≡_ {A = ℕ} 0 1 = cc in omega arith)
+  then-full done k b ws t z q e = absurd (let y : _≡_ {A = ℕ} 0 1 = cc in omega arith)
+
+  pub all-on : (k b : ℕ) (q : Spot) → Ok M n m q → listIn M n k b q .close ≡ full →
+      listAll M n b q ≡
+      withWords (listIn M n k b q .words) (withCounts (listIn M n k b q .tries) (listIn M n k b q .sizes)
+      (listAll M n (b - listIn M n k b q .tries) (listIn M n k b q .place)))
+  all-on k b q ok e =
+      let l : Listed Spot = listIn M n k b q in
+      sym (room-enough (k + (b + 1)) b q ok (omega arith)) ∙ list-then M C n k (b + 1) b q ∙
+      then-full (l .close) (b + 1) b (l .words) (l .tries) (l .sizes) (l .place) e ∙
+      ap (λ (r : Listed Spot). withWords (l .words) (withCounts (l .tries) (l .sizes) r))
+      (room-enough (b + 1) (b - l .tries) (l .place) (list-ok k b q ok) (omega arith))
+
+  -- What it lists from the first place on: all bad schedules where it is done, else those of the first tries, as many as the budget
+
+  closes-done : (b k : ℕ) (past : List Try) (p : Place) {c : Close} → Closes M n b k past p c → c ≡ done → passing M n p ≡ []
+  closes-done b k past p (no-room h) e = absurd (let z : _≡_ {A = ℕ} 0 1 = cc in omega arith)
+  closes-done b k past p (used-up h i j) e = absurd (let z : _≡_ {A = ℕ} 0 1 = cc in omega arith)
+  closes-done b k past p (no-more h i j) e = i
+
+  closes-spent : (b k : ℕ) (past : List Try) (p : Place) {c : Close} → Closes M n b k past p c → c ≡ spent → (length past ≡ b) × (0 < length (passing M n p))
+  closes-spent b k past p (no-room h) e = absurd (let z : _≡_ {A = ℕ} 0 1 = cc in omega arith)
+  closes-spent b k past p (used-up h i j) e = (i, j)
+  closes-spent b k past p (no-more h i j) e = absurd (let z : _≡_ {A = ℕ} 0 1 = cc in omega arith)
+
+  module _ (some : 0 < n) (k b : ℕ) (q : Spot) (ok : Ok M n m q) (starts : view q ≡ first M) where
+    all-ahead : passing M n (view q) ≡ trails M n (M .fresh)
+    all-ahead = ap (passing M n) starts ∙ whole M C n some
+
+    pub lists-all : listIn M n k b q .close ≡ done → Counted (trails M n (M .fresh)) (listIn M n k b q .words) (listIn M n k b q .tries)
+        (listIn M n k b q .sizes)
+    lists-all e =
+        let L = list-passes M C n m room k b q ok in
+        let p : passing M n (view (listIn M n k b q .place)) ≡ [] = closes-done b k (L .past) (view (listIn M n k b q .place)) (L .closes) e in
+        let a : trails M n (M .fresh) ≡ L .past = sym all-ahead ∙ L .parts ∙ ap (λ (r : List Try). L .past ++ r) p ∙ append-nil (L .past) in
+        record { words = rw a (L .words); tries = rw a (L .tries); sizes = rw a (L .sizes) }
+
+    -- a budget for all tries is not used up with a try left
+    pub lists-enough : length (trails M n (M .fresh)) ≤ b → listIn M n k b q .close ≡ spent → ⊥
+    lists-enough h e =
+        let L = list-passes M C n m room k b q ok in
+        let p : Place = view (listIn M n k b q .place) in
+        let a : trails M n (M .fresh) ≡ L .past ++ passing M n p = sym all-ahead ∙ L .parts in
+        let f = closes-spent b k (L .past) p (L .closes) e in
+        omega (arith, ap length a, length-append (L .past) (passing M n p), f .0, f .1)
+
+    pub lists-part : listIn M n k b q .close ≡ spent →
+        Counted (take b (trails M n (M .fresh))) (listIn M n k b q .words) (listIn M n k b q .tries) (listIn M n k b q .sizes)
+    lists-part e =
+        let L = list-passes M C n m room k b q ok in
+        let s : length (L .past) ≡ b = closes-spent b k (L .past) (view (listIn M n k b q .place)) (L .closes) e .0 in
+        let a : trails M n (M .fresh) ≡ L .past ++ passing M n (view (listIn M n k b q .place)) = sym all-ahead ∙ L .parts in
+        let f : take b (trails M n (M .fresh)) ≡ L .past = ap (take b) a ∙ take-at (L .past) (passing M n (view (listIn M n k b q .place))) b s in
+        record { words = rw f (L .words); tries = rw f (L .tries); sizes = rw f (L .sizes) }
+
+-- a schedule found is no longer than the bound
+
+mem-first : {A : Type 0} {x : A} {l : List A} (r : List A) → List·Memᴰ x l → List·Memᴰ x (l ++ r)
+mem-first r (List·Memᴰ·head e) = List·Memᴰ·head e
+mem-first r (List·Memᴰ·tail m) = List·Memᴰ·tail (mem-first r m)
+
+mem-second : {A : Type 0} {x : A} (l : List A) {r : List A} → List·Memᴰ x r → List·Memᴰ x (l ++ r)
+mem-second [] m = m
+mem-second (y ∷ l) m = List·Memᴰ·tail (mem-second l m)
+
+met-mem : (M : Machine) (n b : ℕ) (past : List Try) (p : Place) {k : Kind} (w : List ℕ) → Met M n b past p k → k ≡ found w →
+    List·Memᴰ (record { word = w; mark = bad }) past
+met-mem M n b past p w (met-bad {w = v} e q h) f =
+    let same : v ≡ w = cc in
+    rw (q, same) (mem-second e (List·Memᴰ·head refl))
+met-mem M n b past p w (P.used-up h l m) f = absurd (let z : _≡_ {A = ℕ} 0 1 = cc in omega arith)
+met-mem M n b past p w (P.no-more h e q) f = absurd (let z : _≡_ {A = ℕ} 0 1 = cc in omega arith)
+
+pub found-short : (M : Machine) → Coded M → (n k : ℕ) → n ≤ k → (b : ℕ) (q : Spot) → Ok M n k q → (w : List ℕ) → searchIn M n b q .kind ≡ found w → length w ≤ n
+found-short M C n k room b q ok w e =
+    let r = call-passes M C n b (view q) (ok .0) in
+    let h : Passed M n b (passing M n (view q)) 0 0 (search M n b (view q)) = r .1 in
+    let f : search M n b (view q) .kind ≡ found w = sym (ap (λ (a : Reply Place). a .kind) (program M C n k room .is b q tt ok)) ∙ e in
+    let i : List·Memᴰ (record { word = w; mark = bad }) (h .past) = met-mem M n b (h .past) (search M n b (view q) .place) w (h .met) f in
+    let j : List·Memᴰ (record { word = w; mark = bad }) (trails M n (M .fresh)) =
+    rw (r .2) (mem-second (r .0) (mem-first (passing M n (search M n b (view q) .place)) i)) in
+    mem-trails M C n (record { word = w; mark = bad }) .0 j .1
+
+-- so with all that a listing finds
+module _ (M : Machine) (C : Coded M) (n k : ℕ) (room : n ≤ k) where
+  short-then : (c : Kind) (r b t z : ℕ) (q : Spot) → ((w : List ℕ) → c ≡ found w → length w ≤ n) → All (λ w. length w ≤ n) (listIn M n r (b - t) q .words) →
+      All (λ w. length w ≤ n) (thenList M n r b c t z q .words)
+  short-then (found w) r b t z q f a = (f w refl, a)
+  short-then stop r b t z q f a = tt
+  short-then end r b t z q f a = tt
+
+  pub list-short : (r b : ℕ) (q : Spot) → Ok M n k q → All (λ w. length w ≤ n) (listIn M n r b q .words)
+  list-short zero b q ok = subst (λ (l : Listed Spot). All (λ w. length w ≤ n) (l .words)) (sym (list-none M C n b q)) tt
+  list-short (suc r) b q ok =
+      let a : Reply Spot = searchIn M n b q in
+      subst (λ (l : Listed Spot). All (λ w. length w ≤ n) (l .words)) (sym (list-search M C n r b q))
+      (short-then (a .kind) r b (a .tries) (a .sizes) (a .place) (λ w e. found-short M C n k room b q ok w e)
+      (list-short r (b - a .tries) (a .place) (program M C n k room .on b q tt ok)))
+
+-- Laws of the listing for whoever writes it as a loop
+
+module _ (M : Machine) (n : ℕ) (q : Spot) (r t z : ℕ) where
+  -- no pair left
+  pub list-over : (b : ℕ) → eqb (q .next) (M .none) ≡ true → listWalk M b n q (suc r) t z ≡ closed done t z q
+  unfolding listWalk
+  list-over zero e = rw e
+  list-over (suc b) e = rw e
+
+  -- no room left
+  pub list-full : (b : ℕ) → listWalk M b n q 0 t z ≡ closed full t z q
+  unfolding listWalk
+  list-full zero = refl
+  list-full (suc b) = refl
+
+  -- a pair left, and no budget
+  pub list-spent : eqb (q .next) (M .none) ≡ false → listWalk M 0 n q (suc r) t z ≡ closed spent t z q
+  unfolding listWalk
+  list-spent e = rw e
+
+  -- one turn, by what came of the try
+  pub list-turn : (b : ℕ) (o : Outcome (M .Conf)) → eqb (q .next) (M .none) ≡ false → M .try (at M (stackOf (q .codes) (q .len))) (q .next) ≡ o →
+      listWalk M (suc b) n q (suc r) t z ≡ listTurn (markOf o) (wordOf q) (afterIn M n q o) r (listWalk M b n) t z
+  unfolding listWalk
+  list-turn b o e f = rw (e, f)
+
+turn-refused : (M : Machine) (n b : ℕ) (q : Spot) (r t z : ℕ) → eqb (q .next) (M .none) ≡ false → M .try (at M (stackOf (q .codes) (q .len)))
+    (q .next) ≡ refused →
+    listWalk M (suc b) n q (suc r) t z ≡ listWalk M b n (settledIn M (q .codes) (q .len) (from (suc (q .next)) (M .codes))) (suc r) (suc t) z
+unfolding afterIn
+turn-refused M n b q r t z h e = list-turn M n q r t z b refused h e
+
+-- a piece of the codes left, all refused, is passed together
+pub list-skip : (M : Machine) → Coded M → (n : ℕ) (cs : List ℕ) (j : ℕ) (seg ks : List ℕ) (i b r t z : ℕ) → from i (M .codes) ≡ seg ++ ks →
+    All (λ k. M .try (at M (stackOf cs j)) k ≡ refused) seg → length seg ≤ b →
+    listWalk M b n (settledIn M cs j (seg ++ ks)) (suc r) t z ≡ listWalk M (b - length seg) n (settledIn M cs j ks) (suc r) (t + length seg) z
+list-skip M C n cs j [] ks i b r t z e a l =
+    let x : b - 0 ≡ b = omega arith in
+    let y : t + 0 ≡ t = omega arith in
+    rw (x, y)
+list-skip M C n cs j (k ∷ seg) ks i zero r t z e a l = absurd (omega arith)
+list-skip M C n cs j (k ∷ seg) ks i (suc b) r t z e a l =
+    let h : (from k (M .codes) ≡ k ∷ (seg ++ ks)) × (from (suc k) (M .codes) ≡ seg ++ ks) = from-head (M .codes) (C .rise) i k (seg ++ ks) e in
+    let m : k < M .none = all-at (λ x. x < M .none) (from-mem i (M .codes) (rw e (List·Memᴰ·head refl))) (C .below) in
+    let x : suc b - suc (length seg) ≡ b - length seg = omega arith in
+    let y : t + suc (length seg) ≡ suc t + length seg = omega arith in
+    ap (λ (q : Spot). listWalk M (suc b) n q (suc r) t z) (settled-here M cs j k (seg ++ ks)) ∙
+    turn-refused M n b (record { codes = cs; len = j; next = k }) r t z (ne-eqb k (M .none) (λ q. omega arith)) (a .0) ∙
+    ap (λ (s : List ℕ). listWalk M b n (settledIn M cs j s) (suc r) (suc t) z) (h .1) ∙
+    list-skip M C n cs j seg ks (suc k) b r (suc t) z (h .1) (a .1) (omega arith) ∙
+    rw (x, y)
