@@ -1,0 +1,56 @@
+-- `pages::answers::put_done` meets its contract: five parts one after the other.
+use borrow.Author.Needs.{needs}
+use Rattle.lines.proofs.Puts.{put-then}
+use Rattle.pages.specs.RunText.{doneLine}
+use Rattle.pages.proofs.answers.put_done.Statement.{statement}
+use Rattle.pages.proofs.answers.put_done.Tie as tie
+
+put-word-requires : tie.Need-put-word-requires
+put-word-requires c κs = search needs
+
+put-field-requires : tie.Need-put-field-requires
+put-field-requires c κs = search needs
+
+put-field-requires-2 : tie.Need-put-field-requires-2
+put-field-requires-2 c κs = search needs
+
+put-field-requires-3 : tie.Need-put-field-requires-3
+put-field-requires-3 c κs = search needs
+
+put-end-requires : tie.Need-put-end-requires
+put-end-requires c κs = search needs
+
+same-length : tie.Need-same-length
+same-length c = search needs
+
+returns : tie.Need-returns
+unfolding doneLine
+returns c =
+    let p2 = c .before .before in
+    let p6 = p2 .before .before .before .before in
+    let p10 = p6 .before .before .before .before in
+    let p14 = p10 .before .before .before .before in
+    let p18 = p14 .before .before .before .before in
+    rw (
+      put-then,
+      put-then,
+      put-then,
+      put-then,
+      ← (p18 .put-word .ensures),
+      ← (p14 .put-field .ensures),
+      ← (p10 .put-field2 .ensures),
+      ← (p6 .put-field3 .ensures),
+      ← (p2 .put-end .ensures),
+    )
+
+pub put-done-spec : {M : Type 1} → statement M
+put-done-spec =
+    tie.close
+    (tie.spec
+    put-word-requires
+    put-field-requires
+    put-field-requires-2
+    put-field-requires-3
+    put-end-requires
+    same-length
+    returns)

@@ -1,0 +1,31 @@
+// A run on one page: a line for each code tried, and the closing line.
+use crate::answers::put_answers;
+use crate::answers::put_done;
+use machine::claim::all_accepts;
+use machine::claim::first_break;
+use machine::run::run;
+use model::records::Model;
+use state::control::Control;
+ghost use mathlib.Core.Path.{_≡_};
+ghost use Rattle.pages.specs.RunPage.{told, runPageOn};
+
+// The run of a model from its fresh configuration. The lent tables are for the answers and for the events.
+pub fn run_page(
+    m: Model,
+    codes: &[u16],
+    answers: &mut [u8],
+    records: &mut [u16],
+    page: &mut [u8],
+) -> usize
+    ensures { λ r. ⌜ told r (now (answers .exit)) (now (records .exit)) (now (page .exit)) ≡ runPageOn m (now (codes .entry)) (now (answers .entry)) (now (records .entry)) (now (page .entry)) ⌝ }
+{
+    let mut t = m.lines;
+    let s = Control::fresh(m);
+    let r = run(&mut t, m, s, codes, answers, records);
+    let claim = m.claim;
+    let events = r.events;
+    let at = put_answers(page, codes, answers, records, r.tried);
+    let accepts = all_accepts(records, events);
+    let broken = first_break(records, events, claim);
+    put_done(page, at, events, accepts, broken)
+}

@@ -1,0 +1,23 @@
+# What the test scripts share. Each of them counts what passed and what was missed, and ends with 'N passed, M failed'.
+set -u
+root=$(cd "$(dirname "$0")/.." && pwd -P) || exit 1
+work=$(mktemp -d) || exit 1
+trap 'rm -rf "$work"' EXIT
+passed=0 failed=0
+
+pass() { passed=$((passed + 1)); }
+miss() {
+    failed=$((failed + 1))
+    echo "missed: $*"
+}
+# same NAME WANTED GOT: the two files are equal
+same() {
+    if cmp -s "$2" "$3"; then pass; else
+        miss "$1"
+        diff "$2" "$3" | head -n 5 | cut -c 1-160
+    fi
+}
+verdict() {
+    echo "$passed passed, $failed failed"
+    [ "$failed" = 0 ]
+}
