@@ -1,10 +1,9 @@
--- The facts that speak of steps, through the public step: model and configuration are checked before each step. They follow
--- from those of the inner step (Steps), since the models are sound and steps keep soundness.
+-- The public step checks model and configuration before each step; along the schedules of the facts it answers what the inner step does,
+-- since the models are sound and steps keep soundness.
 use Prim.Native.Nat.{ℕ}
 use mathlib.Core.Path.{_≡_, refl, ap, _∙_}
 use mathlib.Core.Bool.{true}
 use mathlib.Core.List.{List, [], _∷_}
-use lib.ListN.{replicate}
 use Rattle.terms.specs.Base.{also, Held}
 use Rattle.terms.proofs.Meaning.{also-left, also-right, also-both}
 use Rattle.model.specs.Records.{packAction, actionIn, packMachine, machineIn, packLocation, locationIn, packThread, threadIn, lengthAt, locationAt}
@@ -15,6 +14,8 @@ use Rattle.terms.specs.Line.{packed, termIn, depthIn, groundIn}
 use Rattle.terms.specs.Grade.{deeperOf, aboveLine, aboveBoth, gradeOf}
 use Rattle.terms.specs.Table.{fixedLine, freshTable, findIn, findLine}
 use Rattle.terms.specs.Sound.{fixedFirst, lineSound, linesFrom, allZero, soundTest}
+use Rattle.state.specs.Control.{freshControl}
+use Rattle.state.specs.declared.control.Control.{Control}
 use Rattle.rules.specs.declared.inner.Stepped.{Stepped}
 use Rattle.audit.specs.Each.{allFrom}
 use Rattle.audit.specs.Tops.{higherOf, topAt, topOf, topsFrom, topsOf}
@@ -28,39 +29,27 @@ use Rattle.audit.proofs.Check.{test-model, model-test}
 use Rattle.audit.proofs.Whole.{control-test}
 use Rattle.law.proofs.KeptFresh.{fresh-passes}
 use Rattle.law.proofs.KeptStep.{step-sound}
-use Rattle.machine.specs.Step.{stepChecked}
+use Rattle.machine.specs.Step.{stepChecked, innerStep}
 use Rattle.machine.proofs.Checked.{inner-agrees}
 use Rattle.facts.specs.Models.{keys, fullTable, extends, unlocks, hashes}
-use Rattle.facts.proofs.Steps.{try, start, tries, answer, answered, steps-answered}
-
-tryChecked : Model → Held Stepped → ℕ → Held Stepped
-tryChecked m r code = stepChecked (r .table) m (r .out .control) code
-
-triesChecked : Model → List ℕ → Held Stepped → Held Stepped
-triesChecked m [] r = r
-triesChecked m (k ∷ ks) r = triesChecked m ks (tryChecked m r k)
-
--- 0 where the last code was permitted, else its refusal
-pub stepsTo : Model → List ℕ → ℕ
-stepsTo m ks = answer (triesChecked m ks (start m) .out .reply)
+use Rattle.facts.specs.Said.{replyNumber, answersAfter, answersFrom, answersTo}
+use Rattle.facts.proofs.Steps.{innerFrom, innerTo}
 
 module _ (m : Model) (M : SoundModel m) (A : Arrays m) where
-  one-same : (r : Held Stepped) → SoundConfig m (r .table) (r .out .control) → (k : ℕ) → tryChecked m r k ≡ try m r k
-  unfolding tryChecked try
-  one-same r C k = inner-agrees (r .table) m (r .out .control) k (also-both (model-test (A .lines) M) (control-test A C))
+  one-same : (l : List ℕ) (s : Control) → SoundConfig m l s → (k : ℕ) → stepChecked l m s k ≡ innerStep l m s k
+  one-same l s C k = inner-agrees l m s k (also-both (model-test (A .lines) M) (control-test A C))
 
-  next-sound : (r : Held Stepped) → SoundConfig m (r .table) (r .out .control) → (k : ℕ) → SoundConfig m (try m r k .table) (try m r k .out .control)
-  unfolding try
-  next-sound r C k = step-sound M A C k
+  all-same : (ks : List ℕ) (l : List ℕ) (s : Control) → SoundConfig m l s → answersFrom m ks l s ≡ innerFrom m ks l s
+  unfolding answersFrom innerFrom
+  all-same [] l s C = refl
+  all-same (k ∷ ks) l s C =
+      let r : Held Stepped = innerStep l m s k in
+      ap (λ (x : Held Stepped). answersAfter x (answersFrom m ks)) (one-same l s C k)
+      ∙ ap (λ (ns : List ℕ). replyNumber (r .out .reply) ∷ ns) (all-same ks (r .table) (r .out .control) (step-sound M A C k))
 
-  all-same : (ks : List ℕ) (r : Held Stepped) → SoundConfig m (r .table) (r .out .control) → triesChecked m ks r ≡ tries m ks r
-  unfolding triesChecked tries
-  all-same [] r C = refl
-  all-same (k ∷ ks) r C = ap (triesChecked m ks) (one-same r C k) ∙ all-same ks (try m r k) (next-sound r C k)
-
-  same-answer : (ks : List ℕ) → stepsTo m ks ≡ answered m ks
-  unfolding stepsTo answered start
-  same-answer ks = ap (λ (r : Held Stepped). answer (r .out .reply)) (all-same ks (start m) (fresh-passes M A))
+  same-answers : (ks : List ℕ) → answersTo m ks ≡ innerTo m ks
+  unfolding answersTo innerTo
+  same-answers ks = all-same ks (m .lines) (freshControl m) (fresh-passes M A)
 
 -- the three models are sound, by the test itself
 models-sound : also (soundModel extends) (also (soundModel unlocks) (soundModel hashes)) ≡ true
@@ -80,39 +69,15 @@ hashes-arrays : Arrays hashes
 unfolding hashes fullTable keys
 hashes-arrays = record { lines = refl; threads = refl; locations = refl }
 
-extends-same : (ks : List ℕ) → stepsTo extends ks ≡ answered extends ks
-extends-same = same-answer extends (test-model (extends-arrays .lines) (also-left (soundModel extends) _ models-sound)) extends-arrays
+pub extends-same : (ks : List ℕ) → answersTo extends ks ≡ innerTo extends ks
+extends-same = same-answers extends (test-model (extends-arrays .lines) (also-left (soundModel extends) _ models-sound)) extends-arrays
 
-unlocks-same : (ks : List ℕ) → stepsTo unlocks ks ≡ answered unlocks ks
+pub unlocks-same : (ks : List ℕ) → answersTo unlocks ks ≡ innerTo unlocks ks
 unlocks-same =
-    same-answer unlocks
+    same-answers unlocks
     (test-model (unlocks-arrays .lines) (also-left (soundModel unlocks) (soundModel hashes) (also-right (soundModel extends) _ models-sound))) unlocks-arrays
 
-hashes-same : (ks : List ℕ) → stepsTo hashes ks ≡ answered hashes ks
+pub hashes-same : (ks : List ℕ) → answersTo hashes ks ≡ innerTo hashes ks
 hashes-same =
-    same-answer hashes
+    same-answers hashes
     (test-model (hashes-arrays .lines) (also-right (soundModel unlocks) (soundModel hashes) (also-right (soundModel extends) _ models-sound))) hashes-arrays
-
--- "fifteen extends of sinit by a leaf done, the sixteenth 8; code 12 gives 1; 161 with one machine gives 2; hand-over from a
--- live slot to itself 3; lock twice by one thread done; unlock of a free location 7; hash already listed in a full table
--- done, a new one 9"
-pub facts-of-steps :
-    (stepsTo extends (replicate 15 0) ∷ stepsTo extends (replicate 16 0)
-    ∷ stepsTo extends (12 ∷ []) ∷ stepsTo extends (161 ∷ []) ∷ stepsTo extends (16 ∷ [])
-    ∷ stepsTo extends (1 ∷ []) ∷ stepsTo extends (1 ∷ 1 ∷ []) ∷ stepsTo unlocks (0 ∷ [])
-    ∷ stepsTo hashes (0 ∷ []) ∷ stepsTo hashes (1 ∷ []) ∷ [])
-    ≡ 0 ∷ 8 ∷ 1 ∷ 2 ∷ 3 ∷ 0 ∷ 0 ∷ 7 ∷ 0 ∷ 9 ∷ []
-facts-of-steps =
-    rw (
-      extends-same (replicate 15 0),
-      extends-same (replicate 16 0),
-      extends-same (12 ∷ []),
-      extends-same (161 ∷ []),
-      extends-same (16 ∷ []),
-      extends-same (1 ∷ []),
-      extends-same (1 ∷ 1 ∷ []),
-      unlocks-same (0 ∷ []),
-      hashes-same (0 ∷ []),
-      hashes-same (1 ∷ []),
-    )
-    steps-answered

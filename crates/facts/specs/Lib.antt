@@ -1,2 +1,4 @@
--- The small models that the worked facts are about.
+-- The models that the worked facts are about, and what the facts are said with: answers of the public functions, through the
+-- definitions that their contracts cite.
 pub mod Models
+pub mod Said

@@ -1,14 +1,21 @@
--- Small models for the worked facts: one machine, not protected, whose boot and launch program is program 0.
+-- The models that the worked facts are about: Bare, whose listing document 01 shows whole, and three small ones with one machine, not
+-- protected, whose boot and launch program is program 0.
 use Prim.Native.Nat.{ℕ, zero, suc, _+_}
 use mathlib.Core.Bool.{true}
 use mathlib.Core.List.{List, [], _∷_, _++_}
 use lib.ListN.{length, set, replicate}
 use Rattle.terms.specs.Term.{term}
 use Rattle.terms.specs.Line.{grade, packed}
+use Rattle.terms.specs.declared.term.Term.{Term}
 use Rattle.terms.specs.Table.{fixedLine, freshTable}
 use Rattle.model.specs.Records.{action, location, listed, packAction, packLocation, packThread}
 use Rattle.model.specs.declared.records.Action.{Action}
 use Rattle.model.specs.declared.records.Model.{Model}
+use Rattle.audit.proofs.Bare.{bareWith}
+
+-- crate `reader` proves that the file of document 01 loads as this model
+unfoldable pub bare : Model
+bare = bareWith 1
 
 -- program p has these actions
 abbrev pub program : ℕ → List Action → List ℕ → List ℕ
@@ -59,3 +66,7 @@ unlocks =
 -- the table is full; program 0 hashes number 0, program 1 sinit
 unfoldable pub hashes : Model
 hashes = modelOf fullTable 512 (action 13 0 0 0 ∷ []) (action 13 0 1 0 ∷ []) (replicate 32 0) 0 2
+
+-- numbers 5 and 6, which get labels 3 and 4, and sinit extended by them: by 5 and then 6 (labels 5, 6), by 6 and then 5 (labels 7, 8)
+abbrev pub chains : List Term
+chains = term 0 5 0 ∷ term 0 6 0 ∷ term 14 1 3 ∷ term 14 5 4 ∷ term 14 1 4 ∷ term 14 7 3 ∷ []

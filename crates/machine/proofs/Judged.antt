@@ -25,7 +25,7 @@ use Rattle.rules.specs.declared.event.Event.the-variants.{Jump, Launch, Reset, 
 use Rattle.rules.specs.declared.event.Happening.{Happening}
 use Rattle.machine.specs.Claim.{endedIn, acceptsOf, madeBy, madeIn, jumpBy, jumpsOf, beginsWith, someOf, pathOf, walkedIn, breaksClaim, firstBreakAfter, firstBreak, acceptsAll}
 use Rattle.machine.specs.Recorded.{isReal, Written, HoldsFrom, none, more, Holds, ShortPath}
-use Rattle.machine.specs.Judge.{anyFrom, firstFrom, sumFrom, acceptsAt, makingOp, makesAt, pathAt, followAt, followFrom, followsOn, fulfilsAt, walkedOn, breaksOn, breakBy, firstAccept, firstBreakOn, acceptsOn}
+use Rattle.machine.specs.Judge.{anyFrom, firstFrom, sumFrom, acceptsAt, makingOp, makesAt, pathAt, followAt, followFrom, followsOn, fulfilsAt, walkedOn, breaksOn, brokenBy, breakBy, firstAccept, firstBreakOn, acceptsOn}
 use Rattle.machine.proofs.Recording.{holds-add}
 
 -- what the numbers of a record say
@@ -333,6 +333,11 @@ module _ (l : List ℕ) (c : Claim) (s : ShortPath c) where
   pub breaks-is : {hs : List Happening} {h : Happening} → Holds l hs → Written l (length hs) h → breaksOn l (length hs) c ≡ breaksClaim c hs h
   unfolding breaksOn breaksClaim
   breaks-is {hs} {h} r w = rw (accepts-is l w (c .program), walked-is r)
+
+  -- and so does its ending alone, before the event is recorded
+  pub broken-is : {hs : List Happening} → Holds l hs → (h : Happening) → brokenBy l (length hs) (h .ended) c ≡ breaksClaim c hs h
+  unfolding brokenBy breaksClaim acceptsOf
+  broken-is {hs} r h = rw (walked-is r)
 
 -- A path once walked stays walked
 

@@ -10,7 +10,9 @@ use Rattle.terms.specs.Base.{pick, also}
 use Rattle.model.specs.Fields.{either}
 use Rattle.model.specs.declared.records.Claim.{Claim}
 use Rattle.state.specs.Control.{oneMore}
+use Rattle.state.specs.declared.ended.Ended.{Ended}
 use Rattle.rules.specs.Event.{numberAt}
+use Rattle.machine.specs.Claim.{endedIn}
 
 -- the test holds of one of n numbers from i on
 unfoldable pub anyFrom : ℕ → ℕ → (ℕ → Bool) → Bool
@@ -76,6 +78,10 @@ walkedOn l n c = anyFrom n 0 (λ i. fulfilsAt l n i c)
 -- record n breaks the claim, the n records before it being what is earlier
 unfoldable pub breaksOn : List ℕ → ℕ → Claim → Bool
 breaksOn l n c = also (acceptsAt l n (c .program)) (not (walkedOn l n c))
+
+-- a step by which these threads ended breaks the claim, the n records being what is earlier
+unfoldable pub brokenBy : List ℕ → ℕ → Ended → Claim → Bool
+brokenBy l n e c = also (endedIn (c .program) e) (not (walkedOn l n c))
 
 -- the first of n records with an accept of program v, n where there is none
 unfoldable pub firstAccept : List ℕ → ℕ → ℕ → ℕ

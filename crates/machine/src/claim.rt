@@ -4,8 +4,10 @@ use model::records::Claim;
 use rules::event::Record;
 use rules::event::number_at;
 use state::control::one_more;
+use state::ended::Ended;
 ghost use mathlib.Core.Path.{_≡_};
-ghost use Rattle.machine.specs.Judge.{acceptsAt, makingOp, makesAt, pathAt, followAt, followsOn, fulfilsAt, walkedOn, breaksOn, firstAccept, firstBreakOn, acceptsOn};
+ghost use Rattle.machine.specs.Claim.{endedIn};
+ghost use Rattle.machine.specs.Judge.{acceptsAt, makingOp, makesAt, pathAt, followAt, followsOn, fulfilsAt, walkedOn, breaksOn, brokenBy, firstAccept, firstBreakOn, acceptsOn};
 
 // Record n breaks the claim, the n records before it being what is earlier.
 pub fn breaks(records: &[u16], n: u16, c: Claim) -> bool
@@ -15,6 +17,27 @@ pub fn breaks(records: &[u16], n: u16, c: Claim) -> bool
         return false;
     }
     if walked(records, n, c) { false } else { true }
+}
+
+// A step by which these threads ended breaks the claim, the n records being what is earlier.
+pub fn broken_by(records: &[u16], n: u16, e: Ended, c: Claim) -> bool
+    ensures { λ r. ⌜ r ≡ brokenBy (now (records .entry)) n e c ⌝ }
+{
+    if !ends(e, c.program) {
+        return false;
+    }
+    if walked(records, n, c) { false } else { true }
+}
+
+// A thread that was in this program has ended.
+fn ends(e: Ended, program: u8) -> bool
+    ensures { λ r. ⌜ r ≡ endedIn program e ⌝ }
+{
+    match e {
+        Ended::Nobody => false,
+        Ended::One(p) => p == program,
+        Ended::Two(p, q) => { if p == program { true } else { q == program } }
+    }
 }
 
 // The first of n records that breaks the claim, counted from 1; 0 where none does. Once the path is walked it stays
@@ -102,7 +125,7 @@ fn makes(records: &[u16], i: u16, c: Claim) -> bool
     machine == c.machine as u16
 }
 
-fn making_op(kind: u8) -> u16
+pub fn making_op(kind: u8) -> u16
     ensures { λ r. ⌜ r ≡ makingOp kind ⌝ }
 {
     if kind == 0 { 21 } else { 20 }

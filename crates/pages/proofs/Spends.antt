@@ -4,7 +4,7 @@ use mathlib.Core.Bool.{Bool, true, false, not}
 use mathlib.Core.List.{List}
 use mathlib.Core.Path.{_≡_, refl, sym, ap, subst, _∙_}
 use native.Mathlib.Omega.{arith}
-use lib.ListN.{length, replicate}
+use lib.ListN.{length, set, replicate}
 use lib.Dec.{eqb, ltb, leb}
 use borrow.Author.Tests.{ltb-false, eqb-false, lt-ltb}
 use Rattle.terms.specs.Base.{pick, Held, held}
@@ -19,15 +19,16 @@ use Rattle.rules.specs.Event.{recordOf, recordPut}
 use Rattle.rules.specs.Happened.{happenedOn}
 use Rattle.rules.specs.Work.{workOn}
 use Rattle.rules.specs.declared.event.Happening.{Happening}
-use Rattle.rules.specs.declared.work.Labels.{Labels}
 use Rattle.rules.specs.declared.work.Worked.{Worked}
-use Rattle.rules.specs.declared.work.Worked.the-variants as W
-use Rattle.machine.specs.Judge.{breaksOn}
-use Rattle.search.specs.Place.{atCode, pushed}
+use Rattle.rules.specs.Made.{controlAfter}
+use Rattle.law.specs.Rules.{layoutOf}
+use Rattle.quiet.specs.Quiet.{deepest}
+use Rattle.search.specs.Place.{levelOf, atCode, pushed}
 use Rattle.search.specs.Answer.{refusedListing, roomFor}
 use Rattle.search.specs.Enter.{controlAt, inBounds, Climbed, enterOn}
-use Rattle.search.specs.Turn.{between, reached, closed, past, oneSized, refusedBy, standsAt, foundOn, turned, still, Noted, noted, notedFound, permittedBy, permittedOn, Lent, lent, Sheets, triedBy, triedWith, seeking, turnOn}
-use Rattle.search.specs.Search.{Scene, scene, sheetsOf, turnedOn, walkIn, walkOn, goingOn, firstWalk, walkFrom, task, boundFits, listingWalked, listingEntered, listingOn}
+use Rattle.search.specs.Turn.{between, reached, closed, past, standsAt, still, Lent, lent, Sheets, triedWith, seeking, turnOn}
+use Rattle.search.specs.Search.{Scene, scene, sheetsOf, quietAt, passesSoon, passesLate, spentAll, pastLate, enteredBy, deepAt, deepsOf, turnedOn, walkIn, walkOn, goingOn}
+use Rattle.search.specs.Search.{firstWalk, walkFrom, task, boundFits, listingWalked, listingEntered, listingOn}
 use Rattle.search.specs.declared.place.Place.{Place}
 use Rattle.search.specs.declared.answer.Kind.the-variants.{Stop, End}
 use Rattle.search.specs.declared.answer.Listing.{Listing}
@@ -35,6 +36,7 @@ use Rattle.search.specs.declared.enter.Entered.{Entered}
 use Rattle.search.specs.declared.turn.Walk.{Walk}
 use Rattle.search.specs.declared.turn.Turned.{Turned}
 use Rattle.search.specs.declared.turn.Task.{Task}
+use Rattle.search.proofs.Falls.{tried-left, past-left, turn-enters}
 use Rattle.search.proofs.Laws.{walk-more}
 use Rattle.pages.specs.ListPage.{goesOn, Paged, paged, pageOn}
 use Rattle.pages.specs.declared.lister.Stand.{Stand}
@@ -49,58 +51,6 @@ stop-spends n v h e = record { most = h; some = λ g. absurd (never (goesOn (v .
 
 less-spends : (n : ℕ) (v : Walk) → v .left < n → Spent n v
 less-spends n v h = record { most = omega arith; some = λ g. h }
-
--- what a try leaves, refused or permitted, is what going past the code leaves
-sized-left : (v : Walk) → oneSized v .left ≡ v .left
-unfolding oneSized
-sized-left v = refl
-
-refused-left : (v : Walk) (n : ℕ) → refusedBy v n .left ≡ v .left
-unfolding refusedBy
-refused-left v n = by (eqb n 8) (eqb n 9)
-  where
-    by : (a b : Bool) → pick a (oneSized v) (pick b (oneSized v) v) .left ≡ v .left
-    by true b = sized-left v
-    by false true = sized-left v
-    by false false = refl
-
-found-left : (room : List ℕ) (v : Walk) (q : Place) (filled : ℕ) → foundOn room v q filled .out .left ≡ v .left
-unfolding foundOn
-found-left room v q filled = refl
-
-permitted-by : (x y : Bool) (a b c : Noted Turned) (n : ℕ)
-    → a .out .walk .left ≡ n → b .out .walk .left ≡ n → c .out .walk .left ≡ n → pick x a (pick y b c) .out .walk .left ≡ n
-permitted-by true y a b c n p q r = p
-permitted-by false true a b c n p q r = q
-permitted-by false false a b c n p q r = r
-
-module _ (room : List ℕ) (v : Walk) (q : Place) (code : ℕ) (b : Labels) (k : Task) where
-  noted-left : (l : List ℕ) → permittedBy l room v q code b k .out .walk .left ≡ v .left
-  noted-left l =
-      permitted-by
-      (breaksOn l (q .length - 1) (k .claim))
-      (leb (k .bound) (q .length))
-      (notedFound (foundOn room v q (b .count)) l)
-      (noted (still (standsAt v (v .found) (v .place) (b .count) true)) l room)
-      (noted (turned (standsAt v (v .found) q (b .count) true) true code b) l room)
-      (v .left)
-      (found-left room v q (b .count))
-      refl
-      refl
-
-  permitted-left : (l : List ℕ) (h : Happening) → permittedOn l room v q h code b k .out .walk .left ≡ v .left
-  unfolding permittedOn
-  permitted-left l h = noted-left (recordPut l (q .length - 1) (recordOf h))
-
-tried-left : (r : Worked) (t l room : List ℕ) (s : Control) (v : Walk) (p : Place) (g : Sheets) (code : ℕ) (k : Task)
-    → triedBy r t l room s v p g code k .out .walk .left ≡ v .left
-tried-left (W.Refused n) t l room s v p g code k = refused-left v n
-tried-left (W.Done b) t l room s v p g code k =
-    permitted-left room v (pushed p code) code b k l (happenedOn (s .frame) (g .actions) (g .lengths) code b)
-
-past-left : (w : Walk) (next n : ℕ) → past w next n .left ≡ w .left - n
-unfolding past
-past-left w next n = refl
 
 module _ (w : Walk) where
   past-spends : (next n : ℕ) → Spent (w .left) (past w next n)
@@ -159,11 +109,58 @@ module _ (w : Walk) where
     unfolding turnOn
     turn-spends = turn-by (leb 164 (w .place .next)) (seekFrom (sightOf (s .frame) (g .actions) (g .locations) (k .machines)) (w .place .next))
 
+-- where a schedule is entered, the try before it has spent
+all-spends : (n : ℕ) (w : Walk) → w .left < n → Spent n (spentAll w)
+unfolding spentAll goesOn
+all-spends n w h = stop-spends n (spentAll w) (omega arith) refl
+
+late-by : (b : Bool) (n : ℕ) (v w : Walk) → Spent n v → Spent n w → Spent n (pick b v w)
+late-by true n v w p q = p
+late-by false n v w p q = q
+
+late-spends : (n : ℕ) (w : Walk) (p : Place) (count : ℕ) (quiet : Bool) (t slots values vars actions : List ℕ) → w .left < n
+    → Spent n (pastLate w p count quiet t slots values vars actions)
+unfolding pastLate
+late-spends n w p count quiet t slots values vars actions h =
+    late-by (passesLate quiet t slots values vars actions) n (spentAll w) (standsAt w (w .found) p count true) (all-spends n w h)
+    (less-spends n (standsAt w (w .found) p count true) h)
+
+scene-by : (b : Bool) (n : ℕ) (x y : Scene) → (b ≡ true → Spent n (x .walk)) → Spent n (y .walk) → Spent n (pick b x y .walk)
+scene-by true n x y f g = f refl
+scene-by false n x y f g = g
+
 -- the walk
 module _ (m : Model) (k : Task) where
+  entered-scene : (n : ℕ) (quiet : Bool) (r : Lent Turned) (p : Place) (h : Happening) (c : Control) (d level : ℕ) (stack : List Control) (deeps : List ℕ)
+      → r .out .walk .left < n → Spent n (enteredBy m k quiet r p h c d level stack deeps .walk)
+  entered-scene n quiet r p h c d level stack deeps less =
+      scene-by (passesSoon quiet d (k .listed)) n (scene (spentAll (r .out .walk)) stack deeps (r .table) (r .records) (r .room))
+      (scene
+      (pastLate (r .out .walk) (pushed p (r .out .code)) (r .out .labels .count) quiet (r .table) (c .frame .slots) (c .values) (c .vars) (m .actions))
+      (set stack (level + 1) c)
+      (set deeps (level + 1) d)
+      (r .table)
+      (recordPut (r .records) (p .length) (recordOf h))
+      (r .room))
+      (λ e. all-spends n (r .out .walk) less)
+      (late-spends n (r .out .walk) (pushed p (r .out .code)) (r .out .labels .count) quiet (r .table) (c .frame .slots) (c .values) (c .vars) (m .actions) less)
+
   turned-spends : (x : Scene) → Spent (x .walk .left) (turnedOn m k x .walk)
   unfolding turnedOn
-  turned-spends x = turn-spends (x .walk) (x .table) (x .records) (x .room) (controlAt (x .stack) (x .walk .place .length)) (sheetsOf m) k
+  turned-spends x =
+      let s : Control = controlAt (x .stack) (x .walk .place .length) in
+      let d : ℕ = deepAt (x .deeps) (x .walk .place .length) in
+      let level : ℕ = levelOf (x .walk .place .length) in
+      let r : Lent Turned = turnOn (x .table) (x .records) (x .room) s (x .walk) (sheetsOf m) k in
+      let h : Happening = happenedOn (s .frame) (m .actions) (m .lengths) (r .out .code) (r .out .labels) in
+      let c : Control = controlAfter s (layoutOf m) (r .out .code) (r .out .labels) in
+      let e : ℕ = deepest (r .table) d (s .count) (r .out .labels .count) in
+      let quiet : Bool = quietAt (r .out .walk .left) (x .walk .place .length) k (c .frame .slots) (m .lengths) (c .count) in
+      scene-by (r .out .enters) (x .walk .left) (enteredBy m k quiet r (x .walk .place) h c e level (x .stack) (x .deeps))
+      (scene (r .out .walk) (x .stack) (x .deeps) (r .table) (r .records) (r .room))
+      (λ i. entered-scene (x .walk .left) quiet r (x .walk .place) h c e level (x .stack) (x .deeps)
+      (turn-enters (x .walk) (x .table) (x .records) (x .room) s (sheetsOf m) k i))
+      (turn-spends (x .walk) (x .table) (x .records) (x .room) s (sheetsOf m) k)
 
   then-spends : (b : ℕ) (x : Scene) → Spent b (x .walk) → Spent b (turnedOn m k x .walk)
   then-spends b x h =
@@ -206,7 +203,7 @@ module _ (m : Model) (bound budget : ℕ) (room : List ℕ) (h : 25 ≤ length r
   walked-spends : (t l : List ℕ) (e : Entered) → Spends budget (listingWalked (walkFrom t l room m e budget (task m bound)) budget)
   unfolding walkFrom firstWalk
   walked-spends t l e =
-      let x : Scene = scene (firstWalk e budget (ltb 0 (roomFor room))) (e .stack) t l room in
+      let x : Scene = scene (firstWalk e budget (ltb 0 (roomFor room))) (e .stack) (deepsOf t (e .stack)) t l room in
       let s : Spent budget (walkOn m (task m bound) x .walk) = walk-spends m (task m bound) x room-some in
       record { some = λ g. omega (arith, s .some g, s .most) }
 

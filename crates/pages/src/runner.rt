@@ -2,10 +2,10 @@
 use crate::answers::put_answers;
 use crate::answers::put_done;
 use machine::claim::all_accepts;
-use machine::claim::first_break;
 use machine::run::run;
 use model::records::Model;
 use state::control::Control;
+use trace::claim::judge;
 ghost use mathlib.Core.Path.{_≡_};
 ghost use Rattle.pages.specs.RunPage.{told, runPageOn};
 
@@ -26,6 +26,6 @@ pub fn run_page(
     let events = r.events;
     let at = put_answers(page, codes, answers, records, r.tried);
     let accepts = all_accepts(records, events);
-    let broken = first_break(records, events, claim);
+    let broken = judge(records, events, claim);
     put_done(page, at, events, accepts, broken)
 }

@@ -3,7 +3,7 @@
 use Prim.Native.Nat.{ℕ}
 use mathlib.Core.Path.{_≡_, refl}
 use mathlib.Core.List.{List, [], _∷_}
-use Rattle.terms.specs.Term.{term, shapeOf, inLimits, partsBelow}
+use Rattle.terms.specs.Term.{term, shapeOf, inLimits, partsBelow, afterParts}
 use Rattle.terms.specs.Line.{packed, termIn, depthIn, groundIn}
 use Rattle.terms.specs.Grade.{deeperOf, aboveLine, aboveBoth, gradeOf}
 use Rattle.terms.specs.Table.{fixedLine, freshTable, freeOf, findIn, findLine, findTerm, addTo}
@@ -41,10 +41,10 @@ bareFile n =
     []
 
 pub bare-loads : loadOf (bareFile 49) ≡ loaded 0 0 (bareWith 1)
-unfolding noFields badFields fieldsWith fieldsIn fieldsOf areFields upTo255 noClaim freshDraft followsGroup withEdition withTerm withAction withMachine withLocation withThread withClaim knownEdition versionOrder21 versionRefusal versionLine needAt pastOf largerOf needOf termOf termOrder21 termLimits22 codePast termNames23 termTwice24 termKind25 termRefusal termCounted termEntry termLine actionOf actionOrder21 actionLimits22 locationPast labelBad actionNames23 actionRefusal actionCounted actionEntry actionLine machineOrder21 machineLimits22 machineNames23 machineRefusal machineOf machineEntry machineLine locationOrder21 locationLimits22 locationNames23 locationKind25 locationRefusal locationOf locationEntry locationLine threadNames23 threadRefusal threadOf threadEntry threadLine claimForm20 pathNames23 claimNames23 claimRefusal claimOf claimLine oneLine nextLine wholeRead readFrom firstReading firstFrom firstBadCode lineOfLabel programTwice24 actionSecond withinFrom programReading programsFrom programsReading secondReading noModel modelOf refusedWith loadOf shapeOf inLimits partsBelow packed termIn depthIn groundIn deeperOf aboveLine aboveBoth gradeOf fixedLine freshTable freeOf findIn findLine findTerm addTo packAction actionIn packMachine packLocation packThread lengthAt actionAt locationAt locationIn locOf usesX usesY closing locInForm unusedZero inForm isMemory isRegister kindFits span noLF cutLine linesOf isDigit wellSpelt numberFrom numberOf fieldOf allFrom equalActions equalPrograms newProgram Programs.numberOf
+unfolding noFields badFields fieldsWith fieldsIn fieldsOf areFields upTo255 noClaim freshDraft followsGroup withEdition withTerm withAction withMachine withLocation withThread withClaim knownEdition versionOrder21 versionRefusal versionLine needAt pastOf largerOf needOf termOf termOrder21 termLimits22 codePast termNames23 termTwice24 termKind25 termRefusal termCounted termEntry termLine actionOf actionOrder21 actionLimits22 locationPast labelBad actionNames23 actionRefusal actionCounted actionEntry actionLine machineOrder21 machineLimits22 machineNames23 machineRefusal machineOf machineEntry machineLine locationOrder21 locationLimits22 locationNames23 locationKind25 locationRefusal locationOf locationEntry locationLine threadNames23 threadRefusal threadOf threadEntry threadLine claimForm20 pathNames23 claimNames23 claimRefusal claimOf claimLine oneLine nextLine wholeRead readFrom firstReading firstFrom firstBadCode lineOfLabel programTwice24 actionSecond withinFrom programReading programsFrom programsReading secondReading noModel modelOf refusedWith loadOf shapeOf inLimits partsBelow packed termIn depthIn groundIn deeperOf aboveLine aboveBoth gradeOf fixedLine freshTable freeOf findIn findLine findTerm addTo afterParts packAction actionIn packMachine packLocation packThread lengthAt actionAt locationAt locationIn locOf usesX usesY closing locInForm unusedZero inForm isMemory isRegister kindFits span noLF cutLine linesOf isDigit wellSpelt numberFrom numberOf fieldOf allFrom equalActions equalPrograms newProgram Programs.numberOf
 bare-loads = refl
 
 -- "code programs .. (23)", at line 2
 pub bare-refused : loadOf (bareFile 50) ≡ refusedWith 23 2
-unfolding noFields badFields fieldsWith fieldsIn fieldsOf areFields upTo255 noClaim freshDraft followsGroup withEdition withTerm withAction withMachine withLocation withThread withClaim knownEdition versionOrder21 versionRefusal versionLine needAt pastOf largerOf needOf termOf termOrder21 termLimits22 codePast termNames23 termTwice24 termKind25 termRefusal termCounted termEntry termLine actionOf actionOrder21 actionLimits22 locationPast labelBad actionNames23 actionRefusal actionCounted actionEntry actionLine machineOrder21 machineLimits22 machineNames23 machineRefusal machineOf machineEntry machineLine locationOrder21 locationLimits22 locationNames23 locationKind25 locationRefusal locationOf locationEntry locationLine threadNames23 threadRefusal threadOf threadEntry threadLine claimForm20 pathNames23 claimNames23 claimRefusal claimOf claimLine oneLine nextLine wholeRead readFrom firstReading firstFrom firstBadCode lineOfLabel programTwice24 actionSecond withinFrom programReading programsFrom programsReading secondReading noModel modelOf refusedWith loadOf shapeOf inLimits partsBelow packed termIn depthIn groundIn deeperOf aboveLine aboveBoth gradeOf fixedLine freshTable freeOf findIn findLine findTerm addTo packAction actionIn packMachine packLocation packThread lengthAt actionAt locationAt locationIn locOf usesX usesY closing locInForm unusedZero inForm isMemory isRegister kindFits span noLF cutLine linesOf isDigit wellSpelt numberFrom numberOf fieldOf allFrom equalActions equalPrograms newProgram Programs.numberOf
+unfolding noFields badFields fieldsWith fieldsIn fieldsOf areFields upTo255 noClaim freshDraft followsGroup withEdition withTerm withAction withMachine withLocation withThread withClaim knownEdition versionOrder21 versionRefusal versionLine needAt pastOf largerOf needOf termOf termOrder21 termLimits22 codePast termNames23 termTwice24 termKind25 termRefusal termCounted termEntry termLine actionOf actionOrder21 actionLimits22 locationPast labelBad actionNames23 actionRefusal actionCounted actionEntry actionLine machineOrder21 machineLimits22 machineNames23 machineRefusal machineOf machineEntry machineLine locationOrder21 locationLimits22 locationNames23 locationKind25 locationRefusal locationOf locationEntry locationLine threadNames23 threadRefusal threadOf threadEntry threadLine claimForm20 pathNames23 claimNames23 claimRefusal claimOf claimLine oneLine nextLine wholeRead readFrom firstReading firstFrom firstBadCode lineOfLabel programTwice24 actionSecond withinFrom programReading programsFrom programsReading secondReading noModel modelOf refusedWith loadOf shapeOf inLimits partsBelow packed termIn depthIn groundIn deeperOf aboveLine aboveBoth gradeOf fixedLine freshTable freeOf findIn findLine findTerm addTo afterParts packAction actionIn packMachine packLocation packThread lengthAt actionAt locationAt locationIn locOf usesX usesY closing locInForm unusedZero inForm isMemory isRegister kindFits span noLF cutLine linesOf isDigit wellSpelt numberFrom numberOf fieldOf allFrom equalActions equalPrograms newProgram Programs.numberOf
 bare-refused = refl

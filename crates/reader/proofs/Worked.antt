@@ -6,7 +6,7 @@ use mathlib.Core.List.{List, [], _∷_, _++_}
 use Rattle.lines.specs.Base.{Refusal, refusal}
 use Rattle.lines.specs.Line.{linesOf, cutLine, span, noLF}
 use Rattle.lines.specs.Field as F
-use Rattle.terms.specs.Term.{shapeOf, inLimits, partsBelow}
+use Rattle.terms.specs.Term.{shapeOf, inLimits, partsBelow, afterParts}
 use Rattle.terms.specs.Line.{packed, termIn, depthIn, groundIn}
 use Rattle.terms.specs.Grade.{gradeOf, aboveLine, aboveBoth, deeperOf}
 use Rattle.terms.specs.Table.{fixedLine, freshTable, addTo, findIn, findLine, findTerm, freeOf}
@@ -104,5 +104,5 @@ verdicts =
 -- program and no location (23)
 near-misses : verdicts
     ≡ refusal 21 1 ∷ refusal 21 1 ∷ refusal 20 1 ∷ refusal 24 2 ∷ refusal 22 2 ∷ refusal 23 2 ∷ refusal 21 7 ∷ refusal 23 2 ∷ refusal 23 4 ∷ []
-unfolding verdicts verdict loadOf refusedWith modelOf noModel secondReading programsReading programsFrom programReading withinFrom actionSecond programTwice24 lineOfLabel firstBadCode firstFrom firstReading readFrom wholeRead nextLine oneLine versionLine versionRefusal versionOrder21 knownEdition termLine termEntry termCounted termRefusal termKind25 termTwice24 termNames23 codePast termLimits22 termOrder21 termOf needOf largerOf pastOf needAt actionLine actionEntry actionCounted actionRefusal actionNames23 labelBad locationPast actionLimits22 actionOrder21 actionOf machineLine machineEntry machineOf machineRefusal machineNames23 machineLimits22 machineOrder21 locationLine locationEntry locationOf locationRefusal locationKind25 locationNames23 locationLimits22 locationOrder21 threadLine threadEntry threadOf threadRefusal threadNames23 claimLine claimOf claimRefusal claimNames23 pathNames23 claimForm20 withEdition withTerm withAction withMachine withLocation withThread withClaim followsGroup freshDraft noClaim fieldsOf fieldsIn fieldsWith badFields noFields areFields upTo255 newProgram equalPrograms equalActions numberOf allFrom kindFits isRegister isMemory inForm unusedZero locInForm closing usesY usesX locOf locationAt lengthAt actionAt threadIn packThread locationIn packLocation machineIn packMachine actionIn packAction freshTable fixedLine addTo findTerm findLine findIn freeOf gradeOf aboveBoth aboveLine deeperOf groundIn depthIn termIn packed partsBelow inLimits shapeOf linesOf cutLine span noLF F.fieldOf F.numberOf F.numberFrom F.wellSpelt F.isDigit
+unfolding verdicts verdict loadOf refusedWith modelOf noModel secondReading programsReading programsFrom programReading withinFrom actionSecond programTwice24 lineOfLabel firstBadCode firstFrom firstReading readFrom wholeRead nextLine oneLine versionLine versionRefusal versionOrder21 knownEdition termLine termEntry termCounted termRefusal termKind25 termTwice24 termNames23 codePast termLimits22 termOrder21 termOf needOf largerOf pastOf needAt actionLine actionEntry actionCounted actionRefusal actionNames23 labelBad locationPast actionLimits22 actionOrder21 actionOf machineLine machineEntry machineOf machineRefusal machineNames23 machineLimits22 machineOrder21 locationLine locationEntry locationOf locationRefusal locationKind25 locationNames23 locationLimits22 locationOrder21 threadLine threadEntry threadOf threadRefusal threadNames23 claimLine claimOf claimRefusal claimNames23 pathNames23 claimForm20 withEdition withTerm withAction withMachine withLocation withThread withClaim followsGroup freshDraft noClaim fieldsOf fieldsIn fieldsWith badFields noFields areFields upTo255 newProgram equalPrograms equalActions numberOf allFrom kindFits isRegister isMemory inForm unusedZero locInForm closing usesY usesX locOf locationAt lengthAt actionAt threadIn packThread locationIn packLocation machineIn packMachine actionIn packAction freshTable fixedLine addTo afterParts findTerm findLine findIn freeOf gradeOf aboveBoth aboveLine deeperOf groundIn depthIn termIn packed partsBelow inLimits shapeOf linesOf cutLine span noLF F.fieldOf F.numberOf F.numberFrom F.wellSpelt F.isDigit
 near-misses = refl

@@ -67,12 +67,12 @@ taken-grows T.Full c l a v n = grown-same
 taken-grows (T.Labels x y) c l a v n = meet-grows l c x y (wantOf a (givenAt l x y v n))
 
 -- an action's operands and result, whatever comes of them
-pub try-grows : (l : List ℕ) (c : ℕ) (vars : List ℕ) (o : ℕ) (a : Action) (v n : ℕ)
+pub try-grows : {l : List ℕ} {c : ℕ} → c ≤ 512 → ZeroPast l c → (vars : List ℕ) (o : ℕ) (a : Action) (v n : ℕ)
     → Grown l c (tryAction l c vars o a v n .table) (tryAction l c vars o a v n .out .count)
 unfolding tryAction
-try-grows l c vars o a v n =
+try-grows {l} {c} small zeros vars o a v n =
     let r = takeOperands l c vars o (a .x) (a .y) in
-    grown-then (operands-grow l c vars o (a .x) (a .y)) (taken-grows (r .out .taken) (r .out .count) (r .table) a v n)
+    grown-then (operands-grow small zeros vars o (a .x) (a .y)) (taken-grows (r .out .taken) (r .out .count) (r .table) a v n)
 
 -- the table after the work of a step: as it came where that was refused, else grown to the new count
 pub data WorkKept (l : List ℕ) (c : ℕ) : Held Worked → Type 0 where
@@ -95,7 +95,7 @@ module _ (l : List ℕ) (s : Control) (small : s .count ≤ 512) (zeros : ZeroPa
       let a = nextAction actions (slotAt (s .frame .slots) i) in
       let v = valueAt 0 (s .values) (a .loc) in
       let r = tryAction l (s .count) (s .vars) (placeOf i 0) a v (s .frame .nonce) in
-      out-kept (r .out .out) (r .out) (r .table) (try-grows l (s .count) (s .vars) (placeOf i 0) a v (s .frame .nonce))
+      out-kept (r .out .out) (r .out) (r .table) (try-grows small zeros (s .vars) (placeOf i 0) a v (s .frame .nonce))
 
   way-kept : (w : Way) (actions : List ℕ) → WorkKept l (s .count) (workBy w l s actions)
   way-kept W.Nothing actions = refused

@@ -1,6 +1,6 @@
 -- The event of a step whose work is done, with the programs of the threads that end by it.
 use Prim.Native.Nat.{ℕ}
-use mathlib.Core.List.{List}
+use mathlib.Core.List.{List, []}
 use lib.Dec.{eqb}
 use Rattle.terms.specs.Base.{pick}
 use Rattle.model.specs.declared.records.Action.{Action}
@@ -12,6 +12,7 @@ use Rattle.state.specs.declared.slot.Slot.{Slot}
 use Rattle.state.specs.declared.code.Way.{Way}
 use Rattle.state.specs.declared.code.Way.the-variants as W
 use Rattle.state.specs.declared.control.Frame.{Frame}
+use Rattle.state.specs.declared.ended.Ended.{Ended}
 use Rattle.state.specs.declared.ended.Ended.the-variants.{Nobody}
 use Rattle.rules.specs.Event.{deed, noDeed, happening}
 use Rattle.rules.specs.declared.event.Deed.{Deed}
@@ -19,6 +20,10 @@ use Rattle.rules.specs.declared.event.Event.{Event}
 use Rattle.rules.specs.declared.event.Event.the-variants as E
 use Rattle.rules.specs.declared.event.Happening.{Happening}
 use Rattle.rules.specs.declared.work.Labels.{Labels}
+
+-- all that is read of a frame which is lent
+abbrev pub lentFrame : List ℕ → ℕ → Frame
+lentFrame slots serial = record { slots = slots; locks = []; steps = 0; serial = serial; nonce = 0 }
 
 -- no thread ended as an accept
 abbrev pub aloneOf : Event → Happening
@@ -56,3 +61,19 @@ happenedBy (W.Reset m) f actions lengths l = aloneOf (E.Reset m (f .serial))
 
 unfoldable pub happenedOn : Frame → List ℕ → List ℕ → ℕ → Labels → Happening
 happenedOn f actions lengths code l = happenedBy (wayOf code) f actions lengths l
+
+-- the endings alone
+unfoldable pub endedAdvance : List ℕ → List ℕ → Slot → Ended
+endedAdvance actions lengths q =
+    pick (eqb (nextAction actions q .op) 19) Nobody
+    (pick (eqb (nextAction actions q .op) 20) Nobody
+    (endedOne lengths q))
+
+abbrev pub endedBy : Way → List ℕ → List ℕ → List ℕ → Ended
+endedBy W.Nothing slots actions lengths = Nobody
+endedBy (W.Advance i) slots actions lengths = endedAdvance actions lengths (slotAt slots i)
+endedBy (W.Hand i j) slots actions lengths = endedBoth lengths (slotAt slots i) (slotAt slots j)
+endedBy (W.Reset m) slots actions lengths = Nobody
+
+unfoldable pub endedOn : List ℕ → List ℕ → List ℕ → ℕ → Ended
+endedOn slots actions lengths code = endedBy (wayOf code) slots actions lengths

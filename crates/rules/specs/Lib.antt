@@ -7,4 +7,5 @@ pub mod Work
 pub mod Event
 pub mod Happened
 pub mod Made
+pub mod Parts
 pub mod Step

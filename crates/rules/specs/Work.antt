@@ -1,6 +1,6 @@
 -- What a step does with the table: "the operands (8, then 9); 10; the result (8, then 9)". A refusal cuts the table back.
 use Prim.Native.Nat.{ℕ, _%_}
-use mathlib.Core.List.{List}
+use mathlib.Core.List.{List, []}
 use lib.Dec.{eqb}
 use Rattle.terms.specs.Base.{pick, Held, held}
 use Rattle.terms.specs.Line.{termAt}
@@ -97,6 +97,15 @@ workTried r c = workedBy (r .out .out) (r .out) (r .table) c
 abbrev pub workOf : List ℕ → Control → ℕ → Action → Held Worked
 workOf l s i a =
     workTried (tryAction l (s .count) (s .vars) (placeOf i 0) a (valueAt 0 (s .values) (a .loc)) (s .frame .nonce)) (s .count)
+
+-- all that is read of a configuration which is lent: no locks, and of the counters the nonce alone
+abbrev pub lentControl : List ℕ → List ℕ → List ℕ → ℕ → ℕ → Control
+lentControl slots values vars count nonce = record {
+  frame = record { slots = slots; locks = []; steps = 0; serial = 0; nonce = nonce };
+  values = values;
+  vars = vars;
+  count = count;
+}
 
 -- the next action of the thread in slot i: the mover, or the sender
 unfoldable pub workAdvance : List ℕ → Control → List ℕ → ℕ → Held Worked

@@ -4,30 +4,41 @@ use model::records::Action;
 use state::moves::is_last;
 use state::slot::Slot;
 ghost use mathlib.Core.Path.{_≡_};
+ghost use lib.ListN.{length};
 ghost use Rattle.rules.specs.Effect.{withValue, stored, placeOf, withVar, cleared, End, boundBy, bound};
 
 // Write stores x, extend stores its chain.
-pub fn stored(values: [u16; 32], a: Action, x: u16, r: u16) -> [u16; 32]
-    ensures { λ after. ⌜ after ≡ stored values a x r ⌝ }
+pub fn stored(values: &mut [u16; 32], a: Action, x: u16, r: u16)
+    ensures { λ _. ⌜ now (values .exit) ≡ stored (now (values .entry)) a x r ⌝ }
 {
     let op = a.op;
     match op {
         1 => with_value(values, a.loc, x),
         2 => with_value(values, a.loc, r),
-        _ => values,
+        _ => {}
     }
 }
 
-fn with_value(values: [u16; 32], loc: u16, v: u16) -> [u16; 32]
-    ensures { λ r. ⌜ r ≡ withValue values loc v ⌝ }
+fn with_value(values: &mut [u16; 32], loc: u16, v: u16)
+    ensures { λ _. ⌜ now (values .exit) ≡ withValue (now (values .entry)) loc v ⌝ }
 {
-    let mut out = values;
     let i = loc as usize;
     if i < 32 {
-        out[i] = v;
-        return out;
+        values[i] = v;
     }
-    out
+}
+
+// What the types say of values and variables, said to the prover: how many they are. They do nothing.
+pub fn known_values(values: &[u16; 32])
+    ensures { λ _. ⌜ length (now (values .entry)) ≡ 32 ⌝ }
+{
+    let s: &[u16] = values;
+}
+
+pub fn known_vars(vars: &[u16; 192])
+    ensures { λ _. ⌜ length (now (vars .entry)) ≡ 192 ⌝ }
+{
+    let s: &[u16] = vars;
 }
 
 // Where a variable stands in the flat list of all slots' variables.
@@ -38,30 +49,25 @@ pub fn place_of(slot: u8, variable: u8) -> u16
     first + variable as u16
 }
 
-pub fn with_var(vars: [u16; 192], slot: u8, variable: u8, v: u16) -> [u16; 192]
-    ensures { λ r. ⌜ r ≡ withVar vars slot variable v ⌝ }
+fn with_var(vars: &mut [u16; 192], slot: u8, variable: u8, v: u16)
+    ensures { λ _. ⌜ now (vars .exit) ≡ withVar (now (vars .entry)) slot variable v ⌝ }
 {
-    let mut out = vars;
     let i = place_of(slot, variable) as usize;
     if i < 192 {
-        out[i] = v;
-        return out;
+        vars[i] = v;
     }
-    out
 }
 
 // All variables of a slot are unbound.
-pub fn cleared(vars: [u16; 192], slot: u8) -> [u16; 192]
-    ensures { λ r. ⌜ r ≡ cleared 0 vars slot ⌝ }
+pub fn cleared(vars: &mut [u16; 192], slot: u8)
+    ensures { λ _. ⌜ now (vars .exit) ≡ cleared 0 (now (vars .entry)) slot ⌝ }
 {
-    let mut out = vars;
     let mut k = place_of(slot, 0) as usize;
     let end = last_place(slot);
     while k < end {
-        out[k] = 0;
+        vars[k] = 0;
         k += 1;
     }
-    out
 }
 
 // One past the variables of a slot, 0 where there is no such slot.
@@ -83,12 +89,12 @@ pub fn bound_by(op: u8, r: u16) -> u16
 }
 
 // The variables after the action: its own bound, or all unbound where the thread has ended.
-pub fn bound(lengths: &[u8; 32], vars: [u16; 192], i: u8, s: Slot, v: u16) -> [u16; 192]
-    ensures { λ r. ⌜ r ≡ bound 0 (now (lengths .entry)) vars i s v ⌝ }
+pub fn bound(lengths: &[u8; 32], vars: &mut [u16; 192], i: u8, s: Slot, v: u16)
+    ensures { λ _. ⌜ now (vars .exit) ≡ bound 0 (now (lengths .entry)) (now (vars .entry)) i s v ⌝ }
 {
     if is_last(lengths, s) {
-        cleared(vars, i)
+        cleared(vars, i);
     } else {
-        with_var(vars, i, s.position, v)
+        with_var(vars, i, s.position, v);
     }
 }

@@ -78,7 +78,8 @@ pub fn go<'a>(
         Worked::Refused(n) => refused_step(n, s),
         Worked::Done(l) => {
             let f = s.frame;
-            let h = happened(f, actions, lengths, code, l);
+            let serial = f.serial;
+            let h = happened(&f.slots, serial, actions, lengths, code, l);
             let control = made(s, actions, lengths, machines, locations, code, l);
             Stepped {
                 reply: Reply::Permitted(h),

@@ -2,14 +2,13 @@
 //
 //   want, work   what an action asks of the table, and how it is met: refusals 8, 9, 10
 //   effect       what an action does to locations and variables
-//   launch, reset, hand   the same of late launch, reset and hand-over
-//   made         the configuration after a step
+//   launch, reset   the same of late launch and reset
+//   made         the configuration after a step, made in place
 //   event        the event of a step, and its record as flat numbers
 //   happened     the event of a step whose work is done
 //   inner        one step of a sound configuration
 pub mod effect;
 pub mod event;
-pub mod hand;
 pub mod happened;
 pub mod inner;
 pub mod launch;

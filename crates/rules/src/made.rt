@@ -1,24 +1,41 @@
-// The configuration after a step whose work is done. The table has then the terms that the work left in it.
+// The configuration after a step whose work is done, made in place: first its slots, then all else, which goes by the slots
+// as they were. The table has then the terms that the work left in it.
 use crate::effect::bound;
 use crate::effect::bound_by;
 use crate::effect::cleared;
 use crate::effect::stored;
-use crate::hand::handed;
-use crate::launch::launched;
-use crate::reset::rebooted;
+use crate::launch::values_launched;
+use crate::reset::values_reset;
+use crate::reset::vars_reset;
 use crate::work::Labels;
-use model::records::Action;
+use model::records::machine_at;
 use state::code::Way;
 use state::code::way_of;
 use state::control::Control;
+use state::control::Frame;
+use state::control::one_more;
 use state::early::next_action;
-use state::moves::frame_moved;
+use state::launch::locks_launched;
+use state::launch::thread_launched;
 use state::moves::jumped;
+use state::moves::locked;
 use state::moves::moved_on;
-use state::slot::Slot;
+use state::moves::nonce_after;
+use state::moves::with_slot;
+use state::reset::locks_reset;
+use state::reset::slots_booted;
 use state::slot::slot_at;
 ghost use mathlib.Core.Path.{_≡_};
-ghost use Rattle.rules.specs.Made.{layout, configOf, control, jumpedOn, actedOn, advancedOn, controlAfter};
+ghost use Rattle.terms.specs.Base.{held};
+ghost use Rattle.rules.specs.Made.{layout, controlAfter};
+ghost use Rattle.rules.specs.Parts.{rest, slotsAdvanced, slotsHanded, slotsMade, moved, started, restAdvanced, restHanded, restReset, restMade};
+
+// Steps made, next serial, next nonce.
+pub struct Counters {
+    pub steps: u16,
+    pub serial: u16,
+    pub nonce: u16,
+}
 
 pub fn made<'a>(
     s: Control,
@@ -31,22 +48,45 @@ pub fn made<'a>(
 ) -> Control
     ensures { λ r. ⌜ r ≡ controlAfter s (layout (now (actions .entry)) (now (lengths .entry)) (now (machines .entry)) (now (locations .entry))) code l ⌝ }
 {
-    let w = way_of(code);
-    match w {
-        Way::Nothing => as_it_was(s, l),
-        Way::Advance(i) => advanced(s, actions, lengths, machines, locations, i, l),
-        Way::Hand(i, j) => handed(s, lengths, i, j, l),
-        Way::Reset(m) => rebooted(s, machines, locations, m, l),
-    }
-}
-
-// No code at all moves nothing.
-fn as_it_was(s: Control, l: Labels) -> Control
-    ensures { λ r. ⌜ r ≡ control (configOf s) (l .count) ⌝ }
-{
-    let frame = s.frame;
-    let values = s.values;
-    let vars = s.vars;
+    let f = s.frame;
+    let mut slots = f.slots;
+    let mut locks = f.locks;
+    let mut values = s.values;
+    let mut vars = s.vars;
+    let before = Counters {
+        steps: f.steps,
+        serial: f.serial,
+        nonce: f.nonce,
+    };
+    slots_made(
+        &mut slots,
+        actions,
+        lengths,
+        machines,
+        f.serial,
+        code,
+        l.program,
+    );
+    let c = rest_made(
+        &f.slots,
+        &mut locks,
+        &mut values,
+        &mut vars,
+        before,
+        actions,
+        lengths,
+        locations,
+        machines,
+        code,
+        l,
+    );
+    let frame = Frame {
+        slots,
+        locks,
+        steps: c.steps,
+        serial: c.serial,
+        nonce: c.nonce,
+    };
     Control {
         frame,
         values,
@@ -55,54 +95,196 @@ fn as_it_was(s: Control, l: Labels) -> Control
     }
 }
 
-fn advanced<'a>(
-    s: Control,
+// The slots after the step.
+pub fn slots_made<'a>(
+    slots: &mut [u64; 12],
     actions: &'a [u64; 512],
     lengths: &'a [u8; 32],
     machines: &'a [u32; 4],
-    locations: &'a [u32; 32],
-    i: u8,
-    l: Labels,
-) -> Control
-    ensures { λ r. ⌜ r ≡ control (advancedOn 0 2 (layout (now (actions .entry)) (now (lengths .entry)) (now (machines .entry)) (now (locations .entry))) (configOf s) i (l .x) (l .result) (l .program)) (l .count) ⌝ }
+    serial: u16,
+    code: u16,
+    program: u8,
+)
+    ensures { λ _. ⌜ now (slots .exit) ≡ slotsMade (now (slots .entry)) (now (actions .entry)) (now (lengths .entry)) (now (machines .entry)) serial code program ⌝ }
 {
-    let f = s.frame;
-    let q = slot_at(&f.slots, i);
+    let w = way_of(code);
+    match w {
+        Way::Nothing => {}
+        Way::Advance(i) => { slots_advanced(slots, actions, lengths, machines, serial, i, program) }
+        Way::Hand(i, j) => slots_handed(slots, lengths, i, j),
+        Way::Reset(m) => slots_booted(slots, machine_at(machines, m), m, serial),
+    }
+}
+
+fn slots_advanced<'a>(
+    slots: &mut [u64; 12],
+    actions: &'a [u64; 512],
+    lengths: &'a [u8; 32],
+    machines: &'a [u32; 4],
+    serial: u16,
+    i: u8,
+    program: u8,
+)
+    ensures { λ _. ⌜ now (slots .exit) ≡ slotsAdvanced (now (slots .entry)) (now (actions .entry)) (now (lengths .entry)) (now (machines .entry)) serial i program ⌝ }
+{
+    let q = slot_at(slots, i);
     let a = next_action(actions, q);
     let op = a.op;
     match op {
-        19 => gone_to(s, i, q, a, l),
-        20 => launched(s, machines, locations, i, q, l),
-        _ => acted(s, lengths, i, q, a, l),
+        19 => with_slot(slots, i, jumped(q, program)),
+        20 => with_slot(slots, i, thread_launched(machines, q, serial)),
+        _ => with_slot(slots, i, moved_on(lengths, q)),
     }
 }
 
-// A jump: the thread goes on at that program's start, no variables bound.
-fn gone_to(s: Control, i: u8, q: Slot, a: Action, l: Labels) -> Control
-    ensures { λ r. ⌜ r ≡ control (jumpedOn 0 (configOf s) i q a (l .program)) (l .count) ⌝ }
+// Both have made their action.
+fn slots_handed(slots: &mut [u64; 12], lengths: &[u8; 32], i: u8, j: u8)
+    ensures { λ _. ⌜ now (slots .exit) ≡ slotsHanded (now (slots .entry)) (now (lengths .entry)) i j ⌝ }
 {
-    let f = s.frame;
-    let values = s.values;
-    let old = s.vars;
-    Control {
-        frame: frame_moved(f, i, jumped(q, l.program), a, q.serial),
-        values,
-        vars: cleared(old, i),
-        count: l.count,
+    let q = slot_at(slots, i);
+    let r = slot_at(slots, j);
+    with_slot(slots, i, moved_on(lengths, q));
+    with_slot(slots, j, moved_on(lengths, r));
+}
+
+// All but the slots: these are the slots before the step.
+pub fn rest_made<'a, 'b>(
+    slots: &'b [u64; 12],
+    locks: &mut [u32; 32],
+    values: &mut [u16; 32],
+    vars: &mut [u16; 192],
+    c: Counters,
+    actions: &'a [u64; 512],
+    lengths: &'a [u8; 32],
+    locations: &'a [u32; 32],
+    machines: &'a [u32; 4],
+    code: u16,
+    l: Labels,
+) -> Counters
+    ensures { λ r. ⌜ rest r (now (locks .exit)) (now (values .exit)) (now (vars .exit)) ≡ restMade (now (slots .entry)) (rest c (now (locks .entry)) (now (values .entry)) (now (vars .entry))) (layout (now (actions .entry)) (now (lengths .entry)) (now (machines .entry)) (now (locations .entry))) code l ⌝ }
+{
+    let w = way_of(code);
+    match w {
+        Way::Nothing => c,
+        Way::Advance(i) => {
+            rest_advanced(
+                slots,
+                locks,
+                values,
+                vars,
+                c,
+                actions,
+                lengths,
+                locations,
+                i,
+                l,
+            )
+        }
+        Way::Hand(i, j) => rest_handed(slots, vars, c, lengths, i, j, l.x),
+        Way::Reset(m) => rest_reset(slots, locks, values, vars, c, machines, locations, m),
     }
 }
 
-// Any action but a jump or a late launch.
-fn acted(s: Control, lengths: &[u8; 32], i: u8, q: Slot, a: Action, l: Labels) -> Control
-    ensures { λ r. ⌜ r ≡ control (actedOn 0 (now (lengths .entry)) (configOf s) i q a (l .x) (l .result)) (l .count) ⌝ }
+fn rest_advanced<'a, 'b>(
+    slots: &'b [u64; 12],
+    locks: &mut [u32; 32],
+    values: &mut [u16; 32],
+    vars: &mut [u16; 192],
+    c: Counters,
+    actions: &'a [u64; 512],
+    lengths: &'a [u8; 32],
+    locations: &'a [u32; 32],
+    i: u8,
+    l: Labels,
+) -> Counters
+    ensures { λ r. ⌜ rest r (now (locks .exit)) (now (values .exit)) (now (vars .exit)) ≡ restAdvanced (now (slots .entry)) (rest c (now (locks .entry)) (now (values .entry)) (now (vars .entry))) (now (actions .entry)) (now (lengths .entry)) (now (locations .entry)) i l ⌝ }
 {
-    let f = s.frame;
-    let values = s.values;
-    let vars = s.vars;
-    Control {
-        frame: frame_moved(f, i, moved_on(lengths, q), a, q.serial),
-        values: stored(values, a, l.x, l.result),
-        vars: bound(lengths, vars, i, q, bound_by(a.op, l.result)),
-        count: l.count,
+    let q = slot_at(slots, i);
+    let a = next_action(actions, q);
+    let op = a.op;
+    match op {
+        19 => {
+            // the thread goes on at that program's start, no variables bound
+            cleared(vars, i);
+            locked(locks, a, q.serial);
+            moved(c, op)
+        }
+        20 => {
+            // a new thread in its slot holds the machine's dynamic registers
+            locks_launched(locks, locations, q.machine, c.serial);
+            values_launched(values, locations, q.machine);
+            cleared(vars, i);
+            started(c)
+        }
+        _ => {
+            locked(locks, a, q.serial);
+            stored(values, a, l.x, l.result);
+            bound(lengths, vars, i, q, bound_by(op, l.result));
+            moved(c, op)
+        }
     }
+}
+
+// One step more; new takes a number.
+fn moved(c: Counters, op: u8) -> Counters
+    ensures { λ r. ⌜ r ≡ moved c op ⌝ }
+{
+    Counters {
+        steps: one_more(c.steps),
+        serial: c.serial,
+        nonce: nonce_after(op, c.nonce),
+    }
+}
+
+// One step more, by which a thread was made.
+fn started(c: Counters) -> Counters
+    ensures { λ r. ⌜ r ≡ started c ⌝ }
+{
+    Counters {
+        steps: one_more(c.steps),
+        serial: one_more(c.serial),
+        nonce: c.nonce,
+    }
+}
+
+// The sender binds label 0, the receiver the value.
+fn rest_handed<'b>(
+    slots: &'b [u64; 12],
+    vars: &mut [u16; 192],
+    c: Counters,
+    lengths: &[u8; 32],
+    i: u8,
+    j: u8,
+    x: u16,
+) -> Counters
+    ensures { λ r. ⌜ held r (now (vars .exit)) ≡ restHanded (now (slots .entry)) c (now (vars .entry)) (now (lengths .entry)) i j x ⌝ }
+{
+    let q = slot_at(slots, i);
+    let r = slot_at(slots, j);
+    bound(lengths, vars, i, q, 0);
+    bound(lengths, vars, j, r, x);
+    Counters {
+        steps: one_more(c.steps),
+        serial: c.serial,
+        nonce: c.nonce,
+    }
+}
+
+fn rest_reset<'a, 'b>(
+    slots: &'b [u64; 12],
+    locks: &mut [u32; 32],
+    values: &mut [u16; 32],
+    vars: &mut [u16; 192],
+    c: Counters,
+    machines: &'a [u32; 4],
+    locations: &'a [u32; 32],
+    m: u8,
+) -> Counters
+    ensures { λ r. ⌜ rest r (now (locks .exit)) (now (values .exit)) (now (vars .exit)) ≡ restReset (now (slots .entry)) (rest c (now (locks .entry)) (now (values .entry)) (now (vars .entry))) (now (machines .entry)) (now (locations .entry)) m ⌝ }
+{
+    let machine = machine_at(machines, m);
+    locks_reset(locks, locations, m, machine.protected, c.serial);
+    values_reset(values, locations, m);
+    vars_reset(vars, slots, m);
+    started(c)
 }

@@ -22,7 +22,7 @@ use terms::term::Term;
 ghost use mathlib.Core.Path.{_≡_};
 ghost use Rattle.terms.specs.Base.{held};
 ghost use Rattle.terms.specs.Line.{termAt};
-ghost use Rattle.rules.specs.Work.{refusedBy, labelledBy, meetNew, meetWant, givenAt, tryAction, codeAt, workAdvance, noLabels, workOn};
+ghost use Rattle.rules.specs.Work.{refusedBy, labelledBy, meetNew, meetWant, givenAt, tryAction, codeAt, workAdvance, noLabels, lentControl, workOn};
 
 // The labels of ground x, y and of the result, the program of a jump, and the terms then in the table.
 pub struct Labels {
@@ -55,12 +55,31 @@ pub struct Tried {
 pub fn work(t: &mut [u64; 512], s: Control, actions: &[u64; 512], code: u16) -> Worked
     ensures { λ r. ⌜ held r (now (t .exit)) ≡ workOn (now (t .entry)) s (now (actions .entry)) code ⌝ }
 {
+    let f = s.frame;
+    let count = s.count;
+    let nonce = f.nonce;
+    work_lent(t, &f.slots, &s.values, &s.vars, count, nonce, actions, code)
+}
+
+// The same of a configuration that is lent: all that it reads of it.
+pub fn work_lent<'a>(
+    t: &mut [u64; 512],
+    slots: &'a [u64; 12],
+    values: &'a [u16; 32],
+    vars: &'a [u16; 192],
+    count: u16,
+    nonce: u16,
+    actions: &[u64; 512],
+    code: u16,
+) -> Worked
+    ensures { λ r. ⌜ held r (now (t .exit)) ≡ workOn (now (t .entry)) (lentControl (now (slots .entry)) (now (values .entry)) (now (vars .entry)) count nonce) (now (actions .entry)) code ⌝ }
+{
     let w = way_of(code);
     match w {
         Way::Nothing => Worked::Refused(1),
-        Way::Advance(i) => work_advance(t, s, actions, i),
-        Way::Hand(i, _) => work_advance(t, s, actions, i),
-        Way::Reset(_) => Worked::Done(no_labels(s.count)),
+        Way::Advance(i) => work_advance(t, slots, values, vars, count, nonce, actions, i),
+        Way::Hand(i, _) => work_advance(t, slots, values, vars, count, nonce, actions, i),
+        Way::Reset(_) => Worked::Done(no_labels(count)),
     }
 }
 
@@ -78,15 +97,22 @@ pub fn no_labels(count: u16) -> Labels
 }
 
 // The action of the mover, or of the sender.
-fn work_advance(t: &mut [u64; 512], s: Control, actions: &[u64; 512], i: u8) -> Worked
-    ensures { λ r. ⌜ held r (now (t .exit)) ≡ workAdvance (now (t .entry)) s (now (actions .entry)) i ⌝ }
+fn work_advance<'a>(
+    t: &mut [u64; 512],
+    slots: &'a [u64; 12],
+    values: &'a [u16; 32],
+    vars: &'a [u16; 192],
+    count: u16,
+    nonce: u16,
+    actions: &[u64; 512],
+    i: u8,
+) -> Worked
+    ensures { λ r. ⌜ held r (now (t .exit)) ≡ workAdvance (now (t .entry)) (lentControl (now (slots .entry)) (now (values .entry)) (now (vars .entry)) count nonce) (now (actions .entry)) i ⌝ }
 {
-    let f = s.frame;
-    let q = slot_at(&f.slots, i);
+    let q = slot_at(slots, i);
     let a = next_action(actions, q);
-    let value = value_at(&s.values, a.loc);
-    let count = s.count;
-    let r = try_action(t, count, &s.vars, place_of(i, 0), a, value, f.nonce);
+    let value = value_at(values, a.loc);
+    let r = try_action(t, count, vars, place_of(i, 0), a, value, nonce);
     let out = r.out;
     match out {
         Out::Refused(n) => {

@@ -2,7 +2,7 @@
 use Prim.Native.Nat.{ℕ, _+_, _-_, _<_, _≤_}
 use mathlib.Core.Bool.{Bool, true, false}
 use mathlib.Core.List.{List}
-use mathlib.Core.Path.{_≡_, refl, _∙_}
+use mathlib.Core.Path.{_≡_, refl, sym, ap, _∙_}
 use native.Mathlib.Omega.{arith}
 use lib.Dec.{eqb, ltb, leb}
 use borrow.Author.Tests.{ltb-true, ltb-false, leb-true, leb-false, eqb-false}
@@ -11,17 +11,15 @@ use Rattle.terms.specs.Table.{cutTo}
 use Rattle.state.specs.Code.{codesBelow, codeAfter}
 use Rattle.state.specs.Seek.{sightOf, seekFrom}
 use Rattle.state.specs.declared.control.Control.{Control}
-use Rattle.rules.specs.Event.{recordOf, recordPut}
-use Rattle.rules.specs.Happened.{happenedOn}
+use Rattle.rules.specs.Happened.{endedOn}
 use Rattle.rules.specs.Work.{workOn}
-use Rattle.rules.specs.declared.event.Happening.{Happening}
 use Rattle.rules.specs.declared.work.Labels.{Labels}
 use Rattle.rules.specs.declared.work.Worked.{Worked}
 use Rattle.rules.specs.declared.work.Worked.the-variants as W
-use Rattle.machine.specs.Judge.{breaksOn}
+use Rattle.machine.specs.Judge.{brokenBy}
 use Rattle.search.specs.Place.{atCode, pushed}
-use Rattle.search.specs.Turn.{between, reached, closed, past, oneSized, refusedBy, standsAt, foundOn, turned, still, Noted, noted, notedFound}
-use Rattle.search.specs.Turn.{permittedBy, permittedOn, Lent, lent, Sheets, triedBy, triedWith, passing, seeking, turnOn}
+use Rattle.search.specs.Turn.{between, reached, closed, past, oneSized, refusedBy, foundOn, still, entering}
+use Rattle.search.specs.Turn.{Lent, lent, lentFound, Sheets, triedBy, triedWith, passing, seeking, turnOn}
 use Rattle.search.specs.declared.place.Place.{Place}
 use Rattle.search.specs.declared.answer.Kind.{Kind}
 use Rattle.search.specs.declared.answer.Kind.the-variants.{Stop, End}
@@ -38,7 +36,7 @@ turns-by true n i h = omega arith
 turns-by false n i h = omega arith
 
 -- a walk with less left takes fewer
-turns-fall : (w : Walk) (n : ℕ) → w .left < n → turnsLeft w < n + 1
+pub turns-fall : (w : Walk) (n : ℕ) → w .left < n → turnsLeft w < n + 1
 turns-fall w n h = turns-by (w .going) n (w .left) h
 
 none-by : (b : Bool) (n i : ℕ) → b ≡ false → pick b (i + 1) 0 < n + 1
@@ -86,48 +84,41 @@ found-left : (room : List ℕ) (v : Walk) (q : Place) (filled : ℕ) → foundOn
 unfolding foundOn
 found-left room v q filled = refl
 
-permitted-by : (x y : Bool) (a b c : Noted Turned) (n : ℕ)
-    → a .out .walk .left ≡ n → b .out .walk .left ≡ n → c .out .walk .left ≡ n → pick x a (pick y b c) .out .walk .left ≡ n
-permitted-by true y a b c n p q r = p
-permitted-by false true a b c n p q r = q
-permitted-by false false a b c n p q r = r
+entering-left : (v : Walk) (n code : ℕ) (b : Labels) (bound : ℕ) → entering v n code b bound .walk .left ≡ v .left
+unfolding entering
+entering-left v n code b bound = refl
 
-module _ (room : List ℕ) (v : Walk) (q : Place) (code : ℕ) (b : Labels) (k : Task) where
-  noted-left : (l : List ℕ) → permittedBy l room v q code b k .out .walk .left ≡ v .left
-  noted-left l =
-      permitted-by
-      (breaksOn l (q .length - 1) (k .claim))
-      (leb (k .bound) (q .length))
-      (notedFound (foundOn room v q (b .count)) l)
-      (noted (still (standsAt v (v .found) (v .place) (b .count) true)) l room)
-      (noted (turned (standsAt v (v .found) q (b .count) true) true code b) l room)
-      (v .left)
-      (found-left room v q (b .count))
-      refl
-      refl
-
-  permitted-left : (l : List ℕ) (h : Happening) → permittedOn l room v q h code b k .out .walk .left ≡ v .left
-  unfolding permittedOn
-  permitted-left l h = noted-left (recordPut l (q .length - 1) (recordOf h))
+done-by : (x : Bool) (a b : Lent Turned) (n : ℕ) → a .out .walk .left ≡ n → b .out .walk .left ≡ n → pick x a b .out .walk .left ≡ n
+done-by true a b n p q = p
+done-by false a b n p q = q
 
 -- a try, refused or permitted, spends what going past the code spends
-tried-left : (r : Worked) (t l room : List ℕ) (s : Control) (v : Walk) (p : Place) (g : Sheets) (code : ℕ) (k : Task)
+pub tried-left : (r : Worked) (t l room : List ℕ) (s : Control) (v : Walk) (p : Place) (g : Sheets) (code : ℕ) (k : Task)
     → triedBy r t l room s v p g code k .out .walk .left ≡ v .left
 tried-left (W.Refused n) t l room s v p g code k = refused-left v n
 tried-left (W.Done b) t l room s v p g code k =
-    permitted-left room v (pushed p code) code b k l (happenedOn (s .frame) (g .actions) (g .lengths) code b)
+    done-by
+    (brokenBy l (p .length) (endedOn (s .frame .slots) (g .actions) (g .lengths) code) (k .claim))
+    (lentFound (foundOn room v (pushed p code) (b .count)) t l)
+    (lent (entering v (p .length) code b (k .bound)) t l room)
+    (v .left)
+    (found-left room v (pushed p code) (b .count))
+    (entering-left v (p .length) code b (k .bound))
 
 closed-ends : (w : Walk) (p : Place) (n : ℕ) (kind : Kind) → closed w p n kind .going ≡ false
 unfolding closed
 closed-ends w p n kind = refl
 
-past-left : (w : Walk) (next n : ℕ) → past w next n .left ≡ w .left - n
+pub past-left : (w : Walk) (next n : ℕ) → past w next n .left ≡ w .left - n
 unfolding past
 past-left w next n = refl
 
 module _ (w : Walk) where
   closed-turns : (p : Place) (n : ℕ) (kind : Kind) → turnsLeft (closed w p n kind) < w .left + 1
   closed-turns p n kind = none-by (closed w p n kind .going) (w .left) (closed w p n kind .left) (closed-ends w p n kind)
+
+  fewer : (n : ℕ) → (w .left ≡ n → ⊥) → n ≤ w .left → w .left - (n + 1) < w .left
+  fewer n u o = omega arith
 
   pass-by : (x y z : Bool) (n code : ℕ) (a b c d : Lent Turned) → (164 ≤ code → 0 < n)
       → ltb (w .left) n ≡ x → leb 164 code ≡ y → eqb (w .left) n ≡ z
@@ -141,10 +132,21 @@ module _ (w : Walk) where
       turns-fall (b .out .walk) (w .left) (rw f (omega (arith, h (leb-true 164 code q), ltb-false (w .left) n p)))
   pass-by false false true n code a b c d h p q r e f g i = g
   pass-by false false false n code a b c d h p q r e f g i =
-      turns-fall (d .out .walk) (w .left) (rw i (less (eqb-false (w .left) n r) (ltb-false (w .left) n p)))
-    where
-      less : (w .left ≡ n → ⊥) → n ≤ w .left → w .left - (n + 1) < w .left
-      less u o = omega arith
+      turns-fall (d .out .walk) (w .left) (rw i (fewer n (eqb-false (w .left) n r) (ltb-false (w .left) n p)))
+
+  clash : (b : Bool) → b ≡ false → b ≡ true → ⊥
+  clash b e f = let z : _≡_ {A = ℕ} 0 1 = ap (λ (x : Bool). pick x 1 0) (sym e ∙ f) in omega arith
+
+  enter-by : (x y z : Bool) (n : ℕ) (a b c d : Lent Turned)
+      → ltb (w .left) n ≡ x → eqb (w .left) n ≡ z
+      → a .out .enters ≡ false → b .out .enters ≡ false → c .out .enters ≡ false
+      → d .out .walk .left ≡ w .left - (n + 1)
+      → pick x a (pick y b (pick z c d)) .out .enters ≡ true
+      → pick x a (pick y b (pick z c d)) .out .walk .left < w .left
+  enter-by true y z n a b c d p r e f g i h = absurd (clash (a .out .enters) e h)
+  enter-by false true z n a b c d p r e f g i h = absurd (clash (b .out .enters) f h)
+  enter-by false false true n a b c d p r e f g i h = absurd (clash (c .out .enters) g h)
+  enter-by false false false n a b c d p r e f g i h = rw i (fewer n (eqb-false (w .left) n r) (ltb-false (w .left) n p))
 
   module _ (t l room : List ℕ) (s : Control) (g : Sheets) (k : Task) where
     passing-turns : (n code : ℕ) → (164 ≤ code → 0 < n) → turnsLeft (passing n code t l room s w g k .out .walk) < w .left + 1
@@ -179,3 +181,35 @@ module _ (w : Walk) where
     pub turn-falls : turnsLeft (turnOn t l room s w g k .out .walk) < w .left + 1
     unfolding turnOn
     turn-falls = turn-by (leb 164 (w .place .next)) (seekFrom (sightOf (s .frame) (g .actions) (g .locations) (k .machines)) (w .place .next)) refl
+
+    passing-enters : (n code : ℕ) → passing n code t l room s w g k .out .enters ≡ true → passing n code t l room s w g k .out .walk .left < w .left
+    passing-enters n code =
+        let q : Place = atCode (w .place) (reached (w .place .next) (w .left)) in
+        let r : Held Worked = workOn (cutTo t (s .count) (w .filled)) s (g .actions) code in
+        let v : Walk = past w (codeAfter code) (n + 1) in
+        enter-by
+        (ltb (w .left) n)
+        (leb 164 code)
+        (eqb (w .left) n)
+        n
+        (lent (still (closed w q (w .left) Stop)) t l room)
+        (lent (still (past w code n)) t l room)
+        (lent (still (closed w (atCode (w .place) code) n Stop)) t l room)
+        (triedWith r l room s v (w .place) g code k)
+        refl
+        refl
+        refl
+        refl
+        refl
+        (tried-left (r .out) (r .table) l room s v (w .place) g code k ∙ past-left w (codeAfter code) (n + 1))
+
+    enters-by : (x : Bool) (code : ℕ)
+        → pick x (lent (still (closed w (w .place) 0 End)) t l room) (seeking code t l room s w g k) .out .enters ≡ true
+        → pick x (lent (still (closed w (w .place) 0 End)) t l room) (seeking code t l room s w g k) .out .walk .left < w .left
+    enters-by true code h = absurd (clash false refl h)
+    enters-by false code h = passing-enters (between (w .place .next) code) code h
+
+    -- a turn that enters a schedule spends
+    pub turn-enters : turnOn t l room s w g k .out .enters ≡ true → turnOn t l room s w g k .out .walk .left < w .left
+    unfolding turnOn
+    turn-enters = enters-by (leb 164 (w .place .next)) (seekFrom (sightOf (s .frame) (g .actions) (g .locations) (k .machines)) (w .place .next))

@@ -1,15 +1,16 @@
 -- A place entered: its schedule is good exactly when it is permitted and unbroken, and then the program stands at it.
-use Prim.Native.Nat.{ℕ, zero, suc, _+_, _%_, _<_, _≤_}
+use Prim.Native.Nat.{ℕ, zero, suc, _+_, _-_, _%_, _<_, _≤_}
 use mathlib.Core.Bool.{Bool, true, false, not}
 use mathlib.Core.List.{List, [], _∷_, _++_}
 use mathlib.Core.Path.{_≡_, refl, sym, ap, ap₂, _∙_, subst}
 use native.Mathlib.Omega.{arith}
-use lib.ListN.{length, getD, set, take, replicate, length-set, length-replicate, getD-replicate, List·getD-eq-default}
+use lib.ListN.{length, getD, set, take, replicate, length-set, length-replicate, length-map, getD-replicate, List·getD-eq-default, List·getD-map}
 use lib.Seq.{length-take-le, ext-getD, getD-take, getD-set-same, getD-set-other}
 use lib.Dec.{eqb, ltb}
 use borrow.Author.Tests.{ltb-true, ltb-false, eqb-true, eqb-false}
 use Rattle.terms.specs.Base.{Held}
-use Rattle.terms.proofs.Back.{grown-same}
+use Rattle.terms.specs.Table.{usedOf}
+use Rattle.terms.proofs.Back.{Grown, grown-same, grown-then}
 use Rattle.model.specs.declared.records.Model.{Model}
 use Rattle.state.specs.Control.{freshControl}
 use Rattle.state.specs.declared.control.Control.{Control}
@@ -27,15 +28,18 @@ use Rattle.walk.specs.Place as P
 use Rattle.walk.specs.Array.{stackOf}
 use Rattle.walk.proofs.Array.{length-stack}
 use Rattle.walk.proofs.Loop.{ZeroPast, push-zero}
+use Rattle.quiet.specs.Quiet.{deepestIn, deepest}
+use Rattle.quiet.proofs.Bounds.{Bounds, deeper-bounds}
 use Rattle.law.specs.Rules.{layoutOf}
 use Rattle.law.specs.Machines.{LabelsConf}
 use Rattle.search.specs.Labels.{tryCode, labels}
 use Rattle.search.specs.Place.{place, startPlace, atCode, codeIn, pushed}
 use Rattle.search.specs.Enter.{noControl, wentOn, Climb, climb, Climbed, entered, onGood, enterStep, enterIn, enterOn}
+use Rattle.search.specs.Search.{deepsOf}
 use Rattle.search.specs.Shown.{padded, tidied}
 use Rattle.search.specs.declared.place.Place.{Place}
 use Rattle.search.specs.declared.enter.Entered.{Entered}
-use Rattle.search.proofs.Along.{Sane, workAt, eventAt, confAt, Went, no, yes, step-went, went-code, at-long}
+use Rattle.search.proofs.Along.{Sane, workAt, eventAt, confAt, Went, no, yes, step-went, went-code, at-sane, at-grows, at-long}
 use Rattle.search.proofs.JoinPlace.{spot, push-is}
 use Rattle.search.proofs.JoinStand.{Judging, there, Parts}
 use Rattle.search.proofs.JoinRoom.{clean-padded}
@@ -45,6 +49,15 @@ pub stack-same : (cs ds : List ℕ) (j : ℕ) → ((i : ℕ) → i < j → getD 
 unfolding stackOf
 stack-same cs ds zero f = refl
 stack-same cs ds (suc j) f = ap₂ (λ (x : ℕ) (r : List ℕ). x ∷ r) (f j (omega arith)) (stack-same cs ds j (λ i h. f i (omega arith)))
+
+-- the depth of the deepest term of a configuration of the stack
+deeps-at : (t : List ℕ) (stack : List Control) (i : ℕ) → getD (deepsOf t stack) i 0 ≡ deepest t 0 0 (getD stack i noControl .count)
+unfolding deepsOf deepest deepestIn usedOf
+deeps-at t stack i = List·getD-map (λ (s : Control). deepest t 0 0 (s .count)) stack i noControl
+
+pub deeps-long : (t : List ℕ) (stack : List Control) → length (deepsOf t stack) ≡ length stack
+unfolding deepsOf
+deeps-long t stack = length-map stack (λ (s : Control). deepest t 0 0 (s .count))
 
 module _ (m : Model) (start : Sane (labels m .fresh)) (J : Judging m) (p : Place) (all-codes : length (p .codes) ≡ 24) (short : p .length < 24) where
   abbrev M : Machine
@@ -271,13 +284,30 @@ module _ (m : Model) (start : Sane (labels m .fresh)) (J : Judging m) (p : Place
     there-is : (k : ℕ) → k ≤ p .length → at M (stackOf cs k) ≡ at M (stackOf ds k)
     there-is k h = ap (at M) (stack-is k h)
 
-    pub entry-parts : Parts m start J (x .stack) (x .table) (there m start J (x .place .codes) (p .length) .control .count) (x .records)
-        (x .place .codes) (p .length)
+    -- each shorter schedule's terms are the first of the table
+    grown-to : (d i : ℕ) → d + i ≡ p .length → Grown (there m start J ds i .table) (there m start J ds i .control .count) (x .table)
+        (there m start J ds (p .length) .control .count)
+    unfolding stackOf
+    grown-to zero i e =
+        let f : i ≡ p .length = omega arith in
+        rw (f, v .table) grown-same
+    grown-to (suc d) i e = grown-then (at-grows m start (getD ds i 0) (stackOf ds i)) (grown-to d (suc i) (omega arith))
+
+    deep-at : (i : ℕ) → i ≤ p .length → Bounds (deepest (x .table) 0 0 (there m start J ds i .control .count)) (there m start J ds i .table)
+        (there m start J ds i .control .count)
+    deep-at i h a l =
+        let s : Sane (there m start J ds i) = at-sane m start (stackOf ds i) in
+        rw (← (grown-to (p .length - i) i (omega arith) .below a l))
+        (deeper-bounds (x .table) (x .table) 0 0 (there m start J ds i .control .count) (s .small) (λ k f. refl) (λ k f. absurd (omega arith)) a l)
+
+    pub entry-parts : Parts m start J (x .stack) (deepsOf (x .table) (x .stack)) (x .table) (there m start J (x .place .codes) (p .length) .control .count)
+        (x .records) (x .place .codes) (p .length)
     entry-parts =
         let e : at M (stackOf cs (p .length)) ≡ at M (stackOf ds (p .length)) = there-is (p .length) (omega arith) in
         record {
           good = rw (stack-is (p .length) (omega arith)) (v .good);
           controls = λ i h. v .controls i h ∙ sym (ap (λ (y : LabelsConf). y .control) (there-is i h));
+          depths = λ i h. rw (deeps-at (x .table) (x .stack) i, v .controls i h, there-is i h) (deep-at i h);
           grown = rw (v .table, e) grown-same;
           holds = rw e (v .holds);
         }

@@ -16,7 +16,7 @@ use Rattle.audit.specs.Sound.{SoundModel}
 use Rattle.law.specs.Rules.{layoutOf}
 use Rattle.machine.specs.Recorded.{isReal, Written, HoldsFrom, none, more, Holds}
 use Rattle.machine.proofs.Recording.{twelve, put-long, holds-front, holds-put}
-use Rattle.machine.proofs.Judged.{breaks-is}
+use Rattle.machine.proofs.Judged.{breaks-is, broken-is}
 use Rattle.machine.proofs.Real.{happened-real, known-ops, short-path}
 use Rattle.search.proofs.JoinStand.{Judging}
 
@@ -39,4 +39,5 @@ module _ (m : Model) (S : SoundModel m) where
     judged = λ l hs h r.
         breaks-is l (m .claim) (short-path m S path) (holds-front hs (h ∷ []) r)
         (subst (λ (j : ℕ). Written l j h) (omega arith) (last-written hs h r));
+    ending = λ l hs h r. broken-is l (m .claim) (short-path m S path) r h;
   }

@@ -1,9 +1,10 @@
--- How the program stands at a place of the walk: its stack has the configuration of each shorter schedule, its table is the one
--- there with perhaps some terms more, its records are the events there. Going back keeps all that.
+-- How the program stands at a place of the walk: its stack has the configuration of each shorter schedule, with a bound for the
+-- depths of its terms, its table is the one there with perhaps some terms more, its records are the events there. Going back keeps
+-- all that.
 use Prim.Native.Nat.{ℕ, zero, suc, _+_, _*_, _<_, _≤_}
-use mathlib.Core.Bool.{true}
+use mathlib.Core.Bool.{Bool, true}
 use mathlib.Core.List.{List, [], _∷_, _++_, List·Memᴰ·head}
-use mathlib.Core.Path.{_≡_, refl, sym, ap, _∙_}
+use mathlib.Core.Path.{_≡_, refl, sym, ap, _∙_, subst}
 use native.Mathlib.Omega.{arith}
 use lib.ListN.{length, getD, set, length-set}
 use Rattle.terms.proofs.Back.{Grown, grown-then}
@@ -15,8 +16,11 @@ use Rattle.rules.specs.Happened.{happenedOn}
 use Rattle.rules.specs.declared.event.Happening.{Happening}
 use Rattle.rules.specs.declared.work.Labels.{Labels}
 use Rattle.machine.specs.Claim.{breaksClaim}
-use Rattle.machine.specs.Judge.{breaksOn}
+use Rattle.machine.specs.Judge.{breaksOn, brokenBy}
+use Rattle.quiet.specs.Quiet.{allFit, calm, shallow, listedOf}
+use Rattle.quiet.proofs.Bounds.{Bounds}
 use Rattle.walk.specs.Machine.{Machine}
+use Rattle.walk.specs.Trail.{plain, markOf}
 use Rattle.walk.specs.Place.{from, at, unbroken}
 use Rattle.walk.specs.Array.{Spot, stackOf, settledIn}
 use Rattle.walk.proofs.Codes.{from-mem}
@@ -25,13 +29,13 @@ use Rattle.walk.proofs.Array.{stack-set}
 use Rattle.walk.proofs.Loop.{Clean}
 use Rattle.walk.proofs.Loop as L
 use Rattle.law.specs.Machines.{LabelsConf}
-use Rattle.search.specs.Labels.{realCodes, labels}
+use Rattle.search.specs.Labels.{realCodes, tryCode, labels}
 use Rattle.search.specs.Enter.{noControl}
 use Rattle.search.proofs.Codes.{isNext, mem-code, code-next, none-next}
 use Rattle.search.proofs.Along.{Sane, at-grows, at-events}
 
 -- what judging over records gives: records hold events, a record put behind them holds one more, and the test over records is
--- the claim over the events
+-- the claim over the events, both of an event that is recorded and of the endings of one that is not yet
 pub record Judging (m : Model) : Type 1 where
   pub Holds : List ℕ → List Happening → Type 0
   pub none : (l : List ℕ) → Holds l []
@@ -40,6 +44,21 @@ pub record Judging (m : Model) : Type 1 where
       Holds (recordPut l (length hs) (recordOf (happenedOn f (m .actions) (m .lengths) k b))) (hs ++ (happenedOn f (m .actions) (m .lengths) k b ∷ []))
   pub long : (l : List ℕ) (i : ℕ) (h : Happening) → length (recordPut l i (recordOf h)) ≡ length l
   pub judged : (l : List ℕ) (hs : List Happening) (h : Happening) → Holds l (hs ++ (h ∷ [])) → breaksOn l (length hs) (m .claim) ≡ breaksClaim (m .claim) hs h
+  pub ending : (l : List ℕ) (hs : List Happening) (h : Happening) → Holds l hs → brokenBy l (length hs) (h .ended) (m .claim) ≡ breaksClaim (m .claim) hs h
+
+abbrev pub calmAt : Model → LabelsConf → Bool
+calmAt m c = calm (c .control .frame .slots) (m .lengths) (c .control .count) (listedOf m)
+
+abbrev pub fitAt : Model → LabelsConf → Bool
+fitAt m c = allFit (c .table) (c .control .frame .slots) (c .control .values) (c .control .vars) (m .actions)
+
+-- what crate `quiet` gives: at a schedule whose configuration is calm all codes are plain, where its terms are shallow, or where its
+-- next actions fit
+pub record Quiet (m : Model) : Type 0 where
+  pub soon : (up : List ℕ) (d : ℕ) → calmAt m (at (labels m) up) ≡ true → shallow d (listedOf m) ≡ true →
+      Bounds d (at (labels m) up .table) (at (labels m) up .control .count) → (k : ℕ) → markOf (tryCode m (at (labels m) up) k) ≡ plain
+  pub late : (up : List ℕ) → calmAt m (at (labels m) up) ≡ true → fitAt m (at (labels m) up) ≡ true → (k : ℕ) →
+      markOf (tryCode m (at (labels m) up) k) ≡ plain
 
 module _ (m : Model) (start : Sane (labels m .fresh)) (J : Judging m) where
   abbrev M : Machine
@@ -50,15 +69,16 @@ module _ (m : Model) (start : Sane (labels m .fresh)) (J : Judging m) where
   there cs j = at M (stackOf cs j)
 
   -- at the schedule of the first j codes; `filled` is how many terms the table may have
-  pub record Parts (stack : List Control) (t : List ℕ) (filled : ℕ) (l : List ℕ) (cs : List ℕ) (j : ℕ) : Type 0 where
+  pub record Parts (stack : List Control) (deeps : List ℕ) (t : List ℕ) (filled : ℕ) (l : List ℕ) (cs : List ℕ) (j : ℕ) : Type 0 where
     pub good : unbroken M (stackOf cs j) ≡ true
     pub controls : (i : ℕ) → i ≤ j → getD stack i noControl ≡ there cs i .control
+    pub depths : (i : ℕ) → i ≤ j → Bounds (getD deeps i 0) (there cs i .table) (there cs i .control .count)
     pub grown : Grown (there cs j .table) (there cs j .control .count) t filled
     pub holds : J .Holds l (there cs j .events)
 
-  module _ (stack : List Control) (t : List ℕ) (filled : ℕ) (l : List ℕ) where
+  module _ (stack : List Control) (deeps : List ℕ) (t : List ℕ) (filled : ℕ) (l : List ℕ) where
     -- one step back
-    parts-back : (cs : List ℕ) (j : ℕ) → Parts stack t filled l cs (suc j) → Parts stack t filled l (set cs j 0) j
+    parts-back : (cs : List ℕ) (j : ℕ) → Parts stack deeps t filled l cs (suc j) → Parts stack deeps t filled l (set cs j 0) j
     unfolding stackOf
     parts-back cs j p =
         let e : stackOf (set cs j 0) j ≡ stackOf cs j = stack-set cs j j 0 (omega arith) in
@@ -66,19 +86,22 @@ module _ (m : Model) (start : Sane (labels m .fresh)) (J : Judging m) where
         record {
           good = rw e (unbroken-below M 0 (getD cs j 0) (stackOf cs j) (p .good));
           controls = λ i h. p .controls i (omega arith) ∙ ap (λ (up : List ℕ). at M up .control) (sym (stack-set cs i j 0 h));
+          depths = λ i h.
+              subst (λ (d : LabelsConf). Bounds (getD deeps i 0) (d .table) (d .control .count)) (ap (at M) (sym (stack-set cs i j 0 h)))
+              (p .depths i (omega arith));
           grown = rw c (grown-then (at-grows m start (getD cs j 0) (stackOf cs j)) (p .grown));
           holds = rw c (at-events m start (J .Holds l) (J .less l) (getD cs j 0) (stackOf cs j) (p .holds));
         }
 
     -- at a place that names its next pair
     pub record Stands (n : ℕ) (q : Spot) : Type 0 where
-      pub parts : Parts stack t filled l (q .codes) (q .len)
+      pub parts : Parts stack deeps t filled l (q .codes) (q .len)
       pub long : length (q .codes) ≡ 24
       pub clean : Clean q
       pub short : q .len < n
       pub next : isNext (q .next) ≡ true
 
-    settle-stands : (n : ℕ) (cs : List ℕ) (j : ℕ) (ks : List ℕ) (i : ℕ) → from i realCodes ≡ ks → Parts stack t filled l cs j → length cs ≡ 24 →
+    settle-stands : (n : ℕ) (cs : List ℕ) (j : ℕ) (ks : List ℕ) (i : ℕ) → from i realCodes ≡ ks → Parts stack deeps t filled l cs j → length cs ≡ 24 →
         L.ZeroPast cs j → j < n →
         Stands n (settledIn M cs j ks)
     unfolding settledIn
@@ -92,6 +115,6 @@ module _ (m : Model) (start : Sane (labels m .fresh)) (J : Judging m) where
         record { parts = p; long = h; clean = z; short = s; next = code-next k (mem-code k (from-mem i realCodes (rw e (List·Memᴰ·head refl)))) }
 
     -- settled from any number on
-    pub stands-from : (n : ℕ) (cs : List ℕ) (j i : ℕ) → Parts stack t filled l cs j → length cs ≡ 24 → L.ZeroPast cs j → j < n →
+    pub stands-from : (n : ℕ) (cs : List ℕ) (j i : ℕ) → Parts stack deeps t filled l cs j → length cs ≡ 24 → L.ZeroPast cs j → j < n →
         Stands n (settledIn M cs j (from i realCodes))
     stands-from n cs j i p h z s = settle-stands n cs j (from i realCodes) i refl p h z s

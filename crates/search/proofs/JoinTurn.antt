@@ -1,6 +1,6 @@
 -- One turn of the program's walk, case by case.
-use Prim.Native.Nat.{ℕ, _+_, _-_, _<_, _≤_}
-use mathlib.Core.Bool.{true, false}
+use Prim.Native.Nat.{ℕ, _+_, _<_, _≤_}
+use mathlib.Core.Bool.{Bool, true, false}
 use mathlib.Core.List.{List}
 use mathlib.Core.Path.{_≡_, ap, _∙_}
 use borrow.Author.Tests.{lt-ltb, le-ltb, le-leb, lt-leb, eq-eqb, ne-eqb}
@@ -9,15 +9,14 @@ use Rattle.terms.specs.Table.{cutTo}
 use Rattle.state.specs.Code.{codeAfter}
 use Rattle.state.specs.Seek.{sightOf, seekFrom}
 use Rattle.state.specs.declared.control.Control.{Control}
-use Rattle.rules.specs.Event.{recordOf, recordPut}
-use Rattle.rules.specs.Happened.{happenedOn}
+use Rattle.rules.specs.Happened.{endedOn}
 use Rattle.rules.specs.Work.{workOn}
 use Rattle.rules.specs.declared.work.Labels.{Labels}
 use Rattle.rules.specs.declared.work.Worked.{Worked}
 use Rattle.rules.specs.declared.work.Worked.the-variants as W
-use Rattle.machine.specs.Judge.{breaksOn}
+use Rattle.machine.specs.Judge.{brokenBy}
 use Rattle.search.specs.Place.{atCode, pushed}
-use Rattle.search.specs.Turn.{between, reached, closed, past, refusedBy, standsAt, foundOn, turned, still, permittedBy, permittedOn, lent, Sheets, triedWith, turnOn}
+use Rattle.search.specs.Turn.{between, reached, closed, past, refusedBy, standsAt, foundOn, turned, still, entering, lent, Sheets, triedBy, triedWith, turnOn}
 use Rattle.search.specs.declared.place.Place.{Place}
 use Rattle.search.specs.declared.answer.Kind.the-variants.{Stop, End}
 use Rattle.search.specs.declared.turn.Walk.{Walk}
@@ -67,27 +66,29 @@ module _ (t l room : List ℕ) (s : Control) (w : Walk) (g : Sheets) (k : Task) 
       turn-refused r n h e f o =
           turn-tried h e ∙ ap (λ (y : Held Worked). triedWith y l room s gonePast (w .place) g code k) f ∙ rw o
 
-      -- the event of the code, done with labels b, and the records with it
-      abbrev pub records : Labels → ℕ → List ℕ
-      records b i = recordPut l i (recordOf (happenedOn (s .frame) (g .actions) (g .lengths) code b))
+      -- permitted, with labels b
+      module _ (r : Held Worked) (b : Labels) (h : code < 164) (e : w .left ≡ between nextOf code → ⊥) (f : worked ≡ r) (o : r .out ≡ W.Done b) where
+        turn-done : turnOn t l room s w g k ≡ triedBy (W.Done b) (r .table) l room s gonePast (w .place) g code k
+        turn-done = turn-tried h e ∙ ap (λ (y : Held Worked). triedWith y l room s gonePast (w .place) g code k) f ∙ rw o
 
-      module _ (r : Held Worked) (b : Labels) (h : code < 164) (e : w .left ≡ between nextOf code → ⊥) (f : worked ≡ r) (o : r .out ≡ W.Done b) (q : Place)
-          (i : ℕ) (push : pushed (w .place) code ≡ q) (last : q .length - 1 ≡ i) where
-        turn-done : turnOn t l room s w g k ≡ lent (permittedBy (records b i) room gonePast q code b k .out) (r .table)
-            (permittedBy (records b i) room gonePast q code b k .records) (permittedBy (records b i) room gonePast q code b k .room)
-        unfolding permittedOn
-        turn-done =
-            turn-tried h e ∙ ap (λ (y : Held Worked). triedWith y l room s gonePast (w .place) g code k) f ∙ rw (o, push, last)
+        -- its endings break the claim
+        abbrev pub broken : Bool
+        broken = brokenBy l (w .place .length) (endedOn (s .frame .slots) (g .actions) (g .lengths) code) (k .claim)
 
-        pub turn-found : breaksOn (records b i) i (k .claim) ≡ true →
-            turnOn t l room s w g k ≡ lent (still (foundOn room gonePast q (b .count) .out)) (r .table) (records b i)
-            (foundOn room gonePast q (b .count) .table)
-        turn-found x = turn-done ∙ rw (last, x)
+        pub turn-found : (q : Place) → pushed (w .place) code ≡ q → broken ≡ true →
+            turnOn t l room s w g k ≡ lent (still (foundOn room gonePast q (b .count) .out)) (r .table) l (foundOn room gonePast q (b .count) .table)
+        turn-found q push x = turn-done ∙ rw (x, push)
 
-        pub turn-bound : breaksOn (records b i) i (k .claim) ≡ false → k .bound ≤ q .length →
-            turnOn t l room s w g k ≡ lent (still (standsAt gonePast (gonePast .found) (gonePast .place) (b .count) true)) (r .table) (records b i) room
-        turn-bound x y = turn-done ∙ rw (last, x, le-leb _ _ y)
+        -- the walk gone past it, with its terms in the table
+        abbrev pub stood : Walk
+        stood = standsAt gonePast (gonePast .found) (gonePast .place) (b .count) true
 
-        pub turn-enter : breaksOn (records b i) i (k .claim) ≡ false → q .length < k .bound →
-            turnOn t l room s w g k ≡ lent (turned (standsAt gonePast (gonePast .found) q (b .count) true) true code b) (r .table) (records b i) room
-        turn-enter x y = turn-done ∙ rw (last, x, lt-leb _ _ y)
+        pub turn-bound : broken ≡ false → k .bound ≤ w .place .length + 1 →
+            turnOn t l room s w g k ≡ lent (turned stood false code b) (r .table) l room
+        unfolding entering
+        turn-bound x y = turn-done ∙ rw (x, le-ltb (w .place .length + 1) (k .bound) y)
+
+        pub turn-enter : broken ≡ false → w .place .length + 1 < k .bound →
+            turnOn t l room s w g k ≡ lent (turned stood true code b) (r .table) l room
+        unfolding entering
+        turn-enter x y = turn-done ∙ rw (x, lt-ltb (w .place .length + 1) (k .bound) y)

@@ -20,7 +20,9 @@ use Rattle.state.specs.Seek.{First, seekFrom}
 use Rattle.state.specs.declared.control.Control.{Control}
 use Rattle.state.proofs.Codes.{below-from, below-over, one-iff}
 use Rattle.state.proofs.Sought.{seek-first}
+use Rattle.state.specs.declared.ended.Ended.{Ended}
 use Rattle.rules.specs.Event.{recordOf, recordPut}
+use Rattle.rules.specs.Happened.{endedOn}
 use Rattle.rules.specs.Made.{controlAfter}
 use Rattle.rules.specs.Work.{workOn}
 use Rattle.rules.specs.declared.event.Happening.{Happening}
@@ -29,12 +31,13 @@ use Rattle.rules.specs.declared.work.Worked.{Worked}
 use Rattle.rules.specs.declared.work.Worked.the-variants as W
 use Rattle.rules.proofs.Back.{WorkKept, work-kept, work-back}
 use Rattle.rules.proofs.Back as K
+use Rattle.rules.proofs.Parts.{happened-ended}
 use Rattle.machine.specs.Claim.{breaksClaim}
-use Rattle.machine.specs.Judge.{breaksOn}
+use Rattle.machine.specs.Judge.{brokenBy}
 use Rattle.walk.specs.Base.{All}
 use Rattle.walk.specs.Machine.{Machine, Coded, Outcome}
 use Rattle.walk.specs.Machine as O
-use Rattle.walk.specs.Trail.{markOf}
+use Rattle.walk.specs.Trail.{plain, markOf}
 use Rattle.walk.specs.Place.{from, at, unbroken}
 use Rattle.walk.specs.Array.{Spot, stackOf, wordOf, settledIn, afterIn}
 use Rattle.walk.specs.List.{Close, full, spent, done, Listed, withWords, listTurn, listWalk}
@@ -42,26 +45,29 @@ use Rattle.walk.specs.List as S
 use Rattle.walk.proofs.Lists.{all-imp}
 use Rattle.walk.proofs.Array.{length-stack, stack-set, stack-push}
 use Rattle.walk.proofs.Loop.{push-zero}
-use Rattle.walk.proofs.List.{Settled, settle-twice, list-over, list-full, list-spent, list-turn, list-skip}
+use Rattle.walk.proofs.List.{Settled, settle-twice, list-over, list-full, list-spent, list-turn, list-skip, list-whole}
+use Rattle.quiet.specs.Quiet.{deepest, listedOf}
+use Rattle.quiet.proofs.Bounds.{Bounds, deeper-grown}
 use Rattle.law.specs.Rules.{layoutOf}
 use Rattle.law.specs.Machines.{LabelsConf}
 use Rattle.search.specs.Labels.{realCodes, tryCode, labels}
 use Rattle.search.specs.Place.{place, atCode, pushed, settled}
 use Rattle.search.specs.Answer.{roomFor}
 use Rattle.search.specs.Enter.{noControl}
-use Rattle.search.specs.Turn.{walk, between, reached, oneMore, closed, past, oneSized, refusedBy, foundOn, still, Lent, lent, turnOn}
-use Rattle.search.specs.Search.{Scene, scene, sheetsOf, sceneAfter, turnedOn, task, goingOn, walkIn}
+use Rattle.search.specs.Turn.{walk, between, reached, oneMore, closed, past, oneSized, refusedBy, standsAt, foundOn, turned, still, Lent, lent, turnOn}
+use Rattle.search.specs.Search.{Scene, scene, sheetsOf, quietAt, passesSoon, passesLate, spentAll, pastLate, sceneAfter, turnedOn, task, goingOn, walkIn}
 use Rattle.search.specs.Shown.{spotOf, kindOf, wordPut, wordsPut}
 use Rattle.search.specs.declared.place.Place.{Place}
 use Rattle.search.specs.declared.answer.Kind.the-variants.{Found, Stop, End}
 use Rattle.search.specs.declared.turn.Walk.{Walk}
 use Rattle.search.specs.declared.turn.Turned.{Turned}
 use Rattle.search.specs.declared.turn.Task.{Task}
-use Rattle.search.proofs.Codes.{isNext, Piece, piece, below-small, code-below, below-orders, below-rises, nth-code, none-next, next-low, next-high, code-low, after-next, from-after, labels-coded}
+use Rattle.search.proofs.Codes.{isNext, codes-long, Piece, piece, below-small, code-below, below-orders, below-rises, nth-code, none-next, next-low, next-high, code-low, after-next, from-after, labels-coded}
 use Rattle.search.proofs.Along.{Sane, sightAt, workAt, eventAt, confAt, try-early, try-refused, try-done, at-sane, at-long}
 use Rattle.search.proofs.JoinPlace.{spot, settle-code, settle-start, settle-is, push-is}
-use Rattle.search.proofs.JoinStand.{Judging, there, Parts, Stands, stands-from}
+use Rattle.search.proofs.JoinStand.{Judging, Quiet, there, Parts, Stands, stands-from}
 use Rattle.search.proofs.JoinRoom.{put-is, room-kept, words-one, words-none}
+use Rattle.search.proofs.JoinPass.{quiet-parts, soon-parts, late-parts, back-is}
 use Rattle.search.proofs.JoinTurn as T
 
 clash : (b : Bool) → b ≡ true → b ≡ false → ⊥
@@ -99,7 +105,7 @@ done-grown : {l : List ℕ} {i : ℕ} {w : Held Worked} (b : Labels) → WorkKep
 done-grown b K.refused e = absurd (let z : _≡_ {A = ℕ} 0 1 = cc in omega arith)
 done-grown b (K.done {r = a} g) e = let f : a ≡ b = cc in rw (← f) g
 
-module _ (m : Model) (start : Sane (labels m .fresh)) (J : Judging m) (n : ℕ) (bound : n ≤ 24) (B : ℕ) (limit : B ≤ 4294967295) where
+module _ (m : Model) (start : Sane (labels m .fresh)) (J : Judging m) (Q : Quiet m) (n : ℕ) (bound : n ≤ 24) (B : ℕ) (limit : B ≤ 4294967295) where
   abbrev M : Machine
   M = labels m
 
@@ -108,7 +114,7 @@ module _ (m : Model) (start : Sane (labels m .fresh)) (J : Judging m) (n : ℕ) 
 
   -- how the program stands
   pub record Inv (x : Scene) : Type 0 where
-    pub stands : Stands m start J (x .stack) (x .table) (x .walk .filled) (x .records) n (spotOf (x .walk .place))
+    pub stands : Stands m start J (x .stack) (x .deeps) (x .table) (x .walk .filled) (x .records) n (spotOf (x .walk .place))
     pub settled : Settled M (spotOf (x .walk .place))
     pub left : x .walk .left ≤ B
     pub sized : x .walk .sized + x .walk .left ≤ B
@@ -117,6 +123,7 @@ module _ (m : Model) (start : Sane (labels m .fresh)) (J : Judging m) (n : ℕ) 
     pub kind : x .walk .going ≡ false → x .walk .kind ≡ Found
     pub records : length (x .records) ≡ 288
     pub stack : length (x .stack) ≡ 25
+    pub deeps : length (x .deeps) ≡ 25
 
   -- the listing from there on
   abbrev pub listOf : Scene → Listed Spot
@@ -167,11 +174,12 @@ module _ (m : Model) (start : Sane (labels m .fresh)) (J : Judging m) (n : ℕ) 
     j-small : j < 24
     j-small = omega (arith, v .stands .short)
 
-    parts : Parts m start J (x .stack) (x .table) (x .walk .filled) (x .records) cs j
+    parts : Parts m start J (x .stack) (x .deeps) (x .table) (x .walk .filled) (x .records) cs j
     parts = v .stands .parts
 
     -- a turn at the configuration there
-    turned-is : (a : Lent Turned) → turnOn (x .table) (x .records) (x .room) s (x .walk) (sheetsOf m) k ≡ a → turnedOn m k x ≡ sceneAfter m a s j (x .stack)
+    turned-is : (a : Lent Turned) → turnOn (x .table) (x .records) (x .room) s (x .walk) (sheetsOf m) k ≡ a →
+        turnedOn m k x ≡ sceneAfter m k a (x .walk .place) s (getD (x .deeps) j 0) j (x .stack) (x .deeps)
     unfolding turnedOn
     turned-is a e =
         let d : j % 24 ≡ j = omega (arith, j-small) in
@@ -201,13 +209,15 @@ module _ (m : Model) (start : Sane (labels m .fresh)) (J : Judging m) (n : ℕ) 
 
     -- on at a place of the same schedule, or back from it
     inv-on : (y : Scene) (d : ℕ) → spotOf (y .walk .place) ≡ settledIn M cs j (from d realCodes) →
-        Parts m start J (y .stack) (y .table) (y .walk .filled) (y .records) cs j → y .walk .left ≤ x .walk .left → y .walk .sized + y .walk .left ≤ B →
-        y .walk .found + y .walk .left ≤ B → y .walk .going ≡ ltb (y .walk .found) (roomFor (y .room)) → (y .walk .going ≡ false → y .walk .kind ≡ Found) →
-        length (y .records) ≡ 288 → length (y .stack) ≡ 25 → Inv y
-    inv-on y d e p a b f g h i l = record {
+        Parts m start J (y .stack) (y .deeps) (y .table) (y .walk .filled) (y .records) cs j →
+        y .walk .left ≤ x .walk .left → y .walk .sized + y .walk .left ≤ B → y .walk .found + y .walk .left ≤ B →
+        y .walk .going ≡ ltb (y .walk .found) (roomFor (y .room)) → (y .walk .going ≡ false → y .walk .kind ≡ Found) →
+        length (y .records) ≡ 288 → length (y .stack) ≡ 25 → length (y .deeps) ≡ 25 → Inv y
+    inv-on y d e p a b f g h i l o = record {
       stands =
-          subst (Stands m start J (y .stack) (y .table) (y .walk .filled) (y .records) n) (sym e)
-          (stands-from m start J (y .stack) (y .table) (y .walk .filled) (y .records) n cs j d p (v .stands .long) (v .stands .clean) (v .stands .short));
+          subst (Stands m start J (y .stack) (y .deeps) (y .table) (y .walk .filled) (y .records) n) (sym e)
+          (stands-from m start J (y .stack) (y .deeps) (y .table) (y .walk .filled) (y .records) n cs j d p
+          (v .stands .long) (v .stands .clean) (v .stands .short));
       settled = subst (Settled M) (sym e) (settle-twice M C n cs j (from d realCodes) d refl);
       left = omega (arith, v .left);
       sized = b;
@@ -216,6 +226,7 @@ module _ (m : Model) (start : Sane (labels m .fresh)) (J : Judging m) (n : ℕ) 
       kind = h;
       records = i;
       stack = l;
+      deeps = o;
     }
 
     at-end : 164 ≤ nx → Turns x (turnedOn m k x)
@@ -226,7 +237,8 @@ module _ (m : Model) (start : Sane (labels m .fresh)) (J : Judging m) (n : ℕ) 
         let l : listOf x ≡ S.closed done (B - w .left) (w .sized) (spotOf (w .place)) =
         rw some-room (list-over M n (spotOf (w .place)) r (B - w .left) (w .sized) (w .left) e) in
         subst (Turns x) (sym (turned-is _ (T.turn-end (x .table) (x .records) (x .room) s w (sheetsOf m) k h)))
-        (closes-with (scene (walk (w .place) (w .left - 0) (w .sized) (w .found) (w .filled) false End) (x .stack) (x .table) (x .records) (x .room)) done
+        (closes-with
+        (scene (walk (w .place) (w .left - 0) (w .sized) (w .found) (w .filled) false End) (x .stack) (x .deeps) (x .table) (x .records) (x .room)) done
         (spotOf (w .place)) (B - w .left) l refl refl refl (omega arith) refl refl refl)
 
     module _ (low : nx < 164) where
@@ -265,7 +277,7 @@ module _ (m : Model) (start : Sane (labels m .fresh)) (J : Judging m) (n : ℕ) 
           subst (Turns x) (sym (turned-is _ (T.turn-out (x .table) (x .records) (x .room) s w (sheetsOf m) k low h)))
           (closes-with
           (scene (walk (place cs j (codeFrom (codesBelow nx + w .left % 256))) (w .left - w .left) (w .sized) (w .found) (w .filled) false Stop)
-          (x .stack) (x .table) (x .records) (x .room))
+          (x .stack) (x .deeps) (x .table) (x .records) (x .room))
           spent (spot cs j d) (B - w .left + w .left) l refl refl (rw md) (omega (arith, v .left)) refl refl refl)
 
       -- the codes up to the one let through are passed
@@ -291,12 +303,12 @@ module _ (m : Model) (start : Sane (labels m .fresh)) (J : Judging m) (n : ℕ) 
             let p : Place = settled (place cs j code) in
             let cn : isNext code ≡ true = high-next code h (first .small) in
             let e : spotOf p ≡ settledIn M cs j (from code realCodes) = settle-is m (place cs j code) (omega (arith, j-small)) cn in
-            let y : Scene = scene (walk p (w .left - u) (w .sized) (w .found) (w .filled) true End) (x .stack) (x .table) (x .records) (x .room) in
+            let y : Scene = scene (walk p (w .left - u) (w .sized) (w .found) (w .filled) true End) (x .stack) (x .deeps) (x .table) (x .records) (x .room) in
             let t : B - w .left + u ≡ B - (w .left - u) = omega (arith, v .left) in
             let l : listOf x ≡ listOf y = reach ∙ rw (some-room, t, e) in
             let i : Inv y =
             inv-on y code e parts (omega arith) (omega (arith, v .sized)) (omega (arith, v .found)) (sym run ∙ v .going)
-            (λ f. absurd (clash true refl f)) (v .records) (v .stack) in
+            (λ f. absurd (clash true refl f)) (v .records) (v .stack) (v .deeps) in
             subst (Turns x) (sym (turned-is _ (T.turn-none (x .table) (x .records) (x .room) s w (sheetsOf m) k low enough h)))
             (goes-on i (omega arith) l refl refl)
 
@@ -322,7 +334,8 @@ module _ (m : Model) (start : Sane (labels m .fresh)) (J : Judging m) (n : ℕ) 
               (rw (z, settle-code m cs j code code-real) at reach) ∙ list-spent M n (spot cs j code) r (B - w .left + u) (w .sized) not-none in
               subst (Turns x) (sym (turned-is _ (T.turn-stop (x .table) (x .records) (x .room) s w (sheetsOf m) k low enough high e)))
               (closes-with
-              (scene (walk (place cs j code) (w .left - u) (w .sized) (w .found) (w .filled) false Stop) (x .stack) (x .table) (x .records) (x .room))
+              (scene (walk (place cs j code) (w .left - u) (w .sized) (w .found) (w .filled) false Stop)
+              (x .stack) (x .deeps) (x .table) (x .records) (x .room))
               spent (spot cs j code) (B - w .left + u) l refl refl refl (omega (arith, v .left)) refl refl refl)
 
           -- the code is tried
@@ -375,16 +388,24 @@ module _ (m : Model) (start : Sane (labels m .fresh)) (J : Judging m) (n : ℕ) 
                   let a : Sane c = at-sane m start (stackOf cs j) in
                   work-back (c .table) s (a .small) (a .zeros) (m .actions) code i o
 
-              parts-back : Parts m start J (x .stack) (workAt m c code .table) (x .walk .filled) (x .records) cs j
-              parts-back = record { good = parts .good; controls = parts .controls; grown = rw table-back (grown-wide (parts .grown)); holds = parts .holds }
+              parts-back : Parts m start J (x .stack) (x .deeps) (workAt m c code .table) (x .walk .filled) (x .records) cs j
+              parts-back = record {
+                good = parts .good;
+                controls = parts .controls;
+                depths = parts .depths;
+                grown = rw table-back (grown-wide (parts .grown));
+                holds = parts .holds;
+              }
 
               abbrev onward : ℕ → Scene
-              onward z = scene (walk after rest z (x .walk .found) (x .walk .filled) true End) (x .stack) (workAt m c code .table) (x .records) (x .room)
+              onward z =
+                  scene (walk after rest z (x .walk .found) (x .walk .filled) true End)
+                  (x .stack) (x .deeps) (workAt m c code .table) (x .records) (x .room)
 
               inv-onward : (z : ℕ) → z + rest ≤ B → Inv (onward z)
               inv-onward z h =
                   inv-on (onward z) (codeAfter code) after-is parts-back (omega (arith, fewer)) h (omega (arith, v .found, fewer)) (sym run ∙ v .going)
-                  (λ f. absurd (clash true refl f)) (v .records) (v .stack)
+                  (λ f. absurd (clash true refl f)) (v .records) (v .stack) (v .deeps)
 
               on-plain : tryCode m c code ≡ O.refused → Turns x (onward (x .walk .sized))
               unfolding afterIn
@@ -411,7 +432,7 @@ module _ (m : Model) (start : Sane (labels m .fresh)) (J : Judging m) (n : ℕ) 
               by-number : (a b : Bool) → tryCode m c code ≡ pick (either a b) O.tooBig O.refused →
                   Turns x (scene (pick a (oneSized (past (x .walk) (codeAfter code) (between nx code + 1)))
                   (pick b (oneSized (past (x .walk) (codeAfter code) (between nx code + 1))) (past (x .walk) (codeAfter code) (between nx code + 1))))
-                  (x .stack) (workAt m c code .table) (x .records) (x .room))
+                  (x .stack) (x .deeps) (workAt m c code .table) (x .records) (x .room))
               by-number true b e = rw sized-is (on-sized e)
               by-number false true e = rw sized-is (on-sized e)
               by-number false false e = rw plain-is (on-plain e)
@@ -445,14 +466,22 @@ module _ (m : Model) (start : Sane (labels m .fresh)) (J : Judging m) (n : ℕ) 
                   rw events-long at
                   (J .put (x .records) (c .events) (s .frame) code b (omega (arith, events-long, j-small, v .records)) (parts .holds))
 
-              judged : breaksOn records j (m .claim) ≡ breaksClaim (m .claim) (c .events) event
-              judged = rw events-long at (J .judged records (c .events) event holds)
+              judged : brokenBy (x .records) j (endedOn (s .frame .slots) (m .actions) (m .lengths) code) (m .claim) ≡ breaksClaim (m .claim) (c .events) event
+              judged =
+                  ap (λ (q : Ended). brokenBy (x .records) j q (m .claim)) (sym (happened-ended (s .frame) (m .actions) (m .lengths) code b)) ∙
+                  (rw events-long at (J .ending (x .records) (c .events) event (parts .holds)))
 
               records-long : length records ≡ 288
               records-long = J .long (x .records) j event ∙ v .records
 
-              parts-on : Parts m start J (x .stack) (workAt m c code .table) (b .count) records cs j
-              parts-on = record { good = parts .good; controls = parts .controls; grown = grows; holds = J .less records (c .events) event holds }
+              parts-on : Parts m start J (x .stack) (x .deeps) (workAt m c code .table) (b .count) (x .records) cs j
+              parts-on = record {
+                good = parts .good;
+                controls = parts .controls;
+                depths = parts .depths;
+                grown = grows;
+                holds = parts .holds;
+              }
 
               -- the schedule with the code
               abbrev longer : Place
@@ -460,9 +489,6 @@ module _ (m : Model) (start : Sane (labels m .fresh)) (J : Judging m) (n : ℕ) 
 
               push : pushed (x .walk .place) code ≡ longer
               push = push-is m (x .walk .place) code j-small (omega (arith, high))
-
-              less-one : suc j - 1 ≡ j
-              less-one = omega arith
 
               abbrev word : List ℕ
               word = wordOf (spot cs j code)
@@ -472,12 +498,13 @@ module _ (m : Model) (start : Sane (labels m .fresh)) (J : Judging m) (n : ℕ) 
               foundScene =
                   scene (walk after rest (x .walk .sized) (x .walk .found + 1) (b .count)
                   (ltb (x .walk .found + 1) (roomFor (wordPut (x .room) (x .walk .found) word))) Found)
-                  (x .stack) (workAt m c code .table) records (wordPut (x .room) (x .walk .found) word)
+                  (x .stack) (x .deeps) (workAt m c code .table) (x .records) (wordPut (x .room) (x .walk .found) word)
 
-              found-is : sceneAfter m
+              found-is : sceneAfter m k
                   (lent (still (foundOn (x .room) (past (x .walk) (codeAfter code) (between nx code + 1)) longer (b .count) .out))
-                  (workAt m c code .table) records
-                  (foundOn (x .room) (past (x .walk) (codeAfter code) (between nx code + 1)) longer (b .count) .table)) s j (x .stack) ≡ foundScene
+                  (workAt m c code .table) (x .records)
+                  (foundOn (x .room) (past (x .walk) (codeAfter code) (between nx code + 1)) longer (b .count) .table))
+                  (x .walk .place) s (getD (x .deeps) j 0) j (x .stack) (x .deeps) ≡ foundScene
               unfolding foundOn past atCode
               found-is =
                   rw (
@@ -493,19 +520,20 @@ module _ (m : Model) (start : Sane (labels m .fresh)) (J : Judging m) (n : ℕ) 
                   let i : Inv foundScene =
                   inv-on foundScene (codeAfter code) after-is parts-on (omega (arith, fewer)) (omega (arith, v .sized, fewer))
                   (omega (arith, v .found, ne, enough)) refl
-                  (λ f. refl) records-long (v .stack) in
+                  (λ f. refl) (v .records) (v .stack) (v .deeps) in
                   let l : listOf x ≡ withWords (word ∷ []) (listOf foundScene) =
                   tried-is O.breaks t ∙ ap (withWords (word ∷ [])) (on-after r (x .walk .sized) ∙ rw (room-kept (x .room) (x .walk .found) word)) in
                   subst (Turns x)
                   (sym (turned-is _ (T.turn-found (x .table) (x .records) (x .room) s (x .walk) (sheetsOf m) k low enough
-                  (workAt m c code) b high ne cut-is o longer j push less-one (judged ∙ e))
+                  (workAt m c code) b high ne cut-is o longer push (judged ∙ e))
                   ∙ found-is))
                   (meets word i fewer l refl refl)
 
               -- not bad, and as long as the bound: not entered
               abbrev boundScene : Scene
               boundScene =
-                  scene (walk after rest (x .walk .sized) (x .walk .found) (b .count) true Found) (x .stack) (workAt m c code .table) records (x .room)
+                  scene (walk after rest (x .walk .sized) (x .walk .found) (b .count) true Found)
+                  (x .stack) (x .deeps) (workAt m c code .table) (x .records) (x .room)
 
               goes-is : breaksClaim (m .claim) (c .events) event ≡ false → tryCode m c code ≡ O.goes (confAt m c code b)
               goes-is e = try-done m c code b lets o ∙ rw e
@@ -515,24 +543,30 @@ module _ (m : Model) (start : Sane (labels m .fresh)) (J : Judging m) (n : ℕ) 
               at-bound e h =
                   let i : Inv boundScene =
                   inv-on boundScene (codeAfter code) after-is parts-on (omega (arith, fewer)) (omega (arith, v .sized, fewer)) (omega (arith, v .found, fewer))
-                  (sym run ∙ v .going) (λ f. absurd (clash true refl f)) records-long (v .stack) in
+                  (sym run ∙ v .going) (λ f. absurd (clash true refl f)) (v .records) (v .stack) (v .deeps) in
                   let a : listOf x ≡ listWalk M rest n (settledIn M cs j (from (suc code) realCodes)) (suc r)
                   (suc (B - x .walk .left + between nx code)) (x .walk .sized) =
                   tried-is (O.goes (confAt m c code b)) (goes-is e) ∙ rw (le-ltb (suc j) n h) in
                   let l : listOf x ≡ listOf boundScene = a ∙ on-after (suc r) (x .walk .sized) ∙ rw some-room in
                   subst (Turns x)
                   (sym (turned-is _ (T.turn-bound (x .table) (x .records) (x .room) s (x .walk) (sheetsOf m) k low enough
-                  (workAt m c code) b high ne cut-is o longer j push less-one (judged ∙ e) h)))
+                  (workAt m c code) b high ne cut-is o (judged ∙ e) (omega arith))))
                   (goes-on i fewer l refl refl)
 
               -- not bad, and shorter than the bound: entered
               abbrev control : Control
               control = controlAfter s (layoutOf m) code b
 
+              -- the depth of its deepest term
+              abbrev deep : ℕ
+              deep = deepest (workAt m c code .table) (getD (x .deeps) j 0) (s .count) (b .count)
+
+              abbrev enterWalk : Walk
+              enterWalk = walk longer rest (x .walk .sized) (x .walk .found) (b .count) true Found
+
               abbrev enterScene : Scene
               enterScene =
-                  scene (walk longer rest (x .walk .sized) (x .walk .found) (b .count) true Found) (set (x .stack) (j + 1) control)
-                  (workAt m c code .table) records (x .room)
+                  scene enterWalk (set (x .stack) (j + 1) control) (set (x .deeps) (j + 1) deep) (workAt m c code .table) records (x .room)
 
               enter-at : breaksClaim (m .claim) (c .events) event ≡ false → at M (code ∷ stackOf cs j) ≡ confAt m c code b
               unfolding at
@@ -562,54 +596,161 @@ module _ (m : Model) (start : Sane (labels m .fresh)) (J : Judging m) (n : ℕ) 
                   getD-set-other (x .stack) (j + 1) i control noControl (λ f. d (f ∙ omega arith)) ∙ parts .controls i (omega arith)
                   ∙ ap (λ (up : List ℕ). at M up .control) (sym (stack-set cs i j code (omega arith)))
 
+              deep-bounds : Bounds deep (workAt m c code .table) (b .count)
+              deep-bounds =
+                  let a : Sane c = at-sane m start (stackOf cs j) in
+                  deeper-grown (getD (x .deeps) j 0) (a .small) grows (parts .depths j (omega arith))
+
+              enter-depth : breaksClaim (m .claim) (c .events) event ≡ false → (i : ℕ) → i ≤ suc j → (q : Bool) → eqb i (suc j) ≡ q →
+                  Bounds (getD (set (x .deeps) (j + 1) deep) i 0) (at M (stackOf (set cs j code) i) .table) (at M (stackOf (set cs j code) i) .control .count)
+              enter-depth e i h true q =
+                  let g : i ≡ suc j = eqb-true i (suc j) q in
+                  let f : j + 1 ≡ suc j = omega arith in
+                  let a : at M (stackOf (set cs j code) (suc j)) ≡ confAt m c code b = ap (at M) enter-stack ∙ enter-at e in
+                  rw (g, f, a, getD-set-same (x .deeps) (suc j) deep 0 (omega (arith, v .deeps, j-small)), count-is) deep-bounds
+              enter-depth e i h false q =
+                  let d : i ≡ suc j → ⊥ = eqb-false i (suc j) q in
+                  rw (getD-set-other (x .deeps) (j + 1) i deep 0 (λ f. d (f ∙ omega arith)), stack-set cs i j code (omega arith))
+                  (parts .depths i (omega arith))
+
               enter-parts : breaksClaim (m .claim) (c .events) event ≡ false →
-                  Parts m start J (set (x .stack) (j + 1) control) (workAt m c code .table) (b .count) records (set cs j code) (suc j)
+                  Parts m start J (set (x .stack) (j + 1) control) (set (x .deeps) (j + 1) deep) (workAt m c code .table) (b .count) records
+                  (set cs j code) (suc j)
               enter-parts e =
                   let a : at M (stackOf (set cs j code) (suc j)) ≡ confAt m c code b = ap (at M) enter-stack ∙ enter-at e in
                   record {
                     good = rw enter-stack (enter-good e);
                     controls = λ i h. enter-control e i h (eqb i (suc j)) refl;
+                    depths = λ i h. enter-depth e i h (eqb i (suc j)) refl;
                     grown = rw (a, count-is) grown-same;
                     holds = rw a holds;
                   }
 
-              at-enter : breaksClaim (m .claim) (c .events) event ≡ false → suc j < n → Turns x (turnedOn m k x)
-              unfolding afterIn past atCode isCode
-              at-enter e h =
-                  let q : Spot = spot (set cs j code) (suc j) 0 in
-                  let f : settledIn M (set cs j code) (suc j) realCodes ≡ q = settle-start m (set cs j code) (suc j) in
-                  let a : listOf x ≡ listWalk M rest n q (suc r) (suc (B - x .walk .left + between nx code)) (x .walk .sized) =
-                  tried-is (O.goes (confAt m c code b)) (goes-is e) ∙ rw (lt-ltb (suc j) n h, f) in
-                  let t : suc (B - x .walk .left + between nx code) ≡ B - rest = omega (arith, ne, enough, v .left) in
-                  let l : listOf x ≡ listOf enterScene = a ∙ rw (t, some-room) in
-                  let i : Inv enterScene = record {
-                    stands = record {
-                      parts = enter-parts e;
-                      long = length-set cs j code ∙ v .stands .long;
-                      clean = push-zero cs j code (v .stands .clean);
-                      short = h;
-                      next = refl;
-                    };
-                    settled = settle-code m (set cs j code) (suc j) 0 refl;
-                    left = omega (arith, fewer, v .left);
-                    sized = omega (arith, v .sized, fewer);
-                    found = omega (arith, v .found, fewer);
-                    going = sym run ∙ v .going;
-                    kind = λ z. absurd (clash true refl z);
-                    records = records-long;
-                    stack = length-set (x .stack) (j + 1) control ∙ v .stack;
-                  } in
-                  subst (Turns x)
-                  (sym (turned-is _ (T.turn-enter (x .table) (x .records) (x .room) s (x .walk) (sheetsOf m) k low enough
-                  (workAt m c code) b high ne cut-is o longer j push less-one (judged ∙ e) h)))
-                  (goes-on i fewer l refl refl)
+              module _ (e : breaksClaim (m .claim) (c .events) event ≡ false) (h : suc j < n) where
+                -- its codes are tried from the first on
+                at-enter : Turns x enterScene
+                unfolding afterIn isCode
+                at-enter =
+                    let q : Spot = spot (set cs j code) (suc j) 0 in
+                    let f : settledIn M (set cs j code) (suc j) realCodes ≡ q = settle-start m (set cs j code) (suc j) in
+                    let a : listOf x ≡ listWalk M rest n q (suc r) (suc (B - x .walk .left + between nx code)) (x .walk .sized) =
+                    tried-is (O.goes (confAt m c code b)) (goes-is e) ∙ rw (lt-ltb (suc j) n h, f) in
+                    let t : suc (B - x .walk .left + between nx code) ≡ B - rest = omega (arith, ne, enough, v .left) in
+                    let l : listOf x ≡ listOf enterScene = a ∙ rw (t, some-room) in
+                    let i : Inv enterScene = record {
+                      stands = record {
+                        parts = enter-parts e;
+                        long = length-set cs j code ∙ v .stands .long;
+                        clean = push-zero cs j code (v .stands .clean);
+                        short = h;
+                        next = refl;
+                      };
+                      settled = settle-code m (set cs j code) (suc j) 0 refl;
+                      left = omega (arith, fewer, v .left);
+                      sized = omega (arith, v .sized, fewer);
+                      found = omega (arith, v .found, fewer);
+                      going = sym run ∙ v .going;
+                      kind = λ z. absurd (clash true refl z);
+                      records = records-long;
+                      stack = length-set (x .stack) (j + 1) control ∙ v .stack;
+                      deeps = length-set (x .deeps) (j + 1) deep ∙ v .deeps;
+                    } in
+                    goes-on i fewer l refl refl
+
+                -- or they are all plain, and nothing is entered from there: the walk stays behind it
+                abbrev spentWalk : Walk
+                spentWalk = walk after (rest - 160) (x .walk .sized) (x .walk .found) (b .count) true End
+
+                abbrev passScene : List Control → List ℕ → List ℕ → Scene
+                passScene stack deeps l = scene spentWalk stack deeps (workAt m c code .table) l (x .room)
+
+                at-passed : (stack : List Control) (deeps l : List ℕ) → Parts m start J stack deeps (workAt m c code .table) (b .count) l cs j →
+                    length stack ≡ 25 → length deeps ≡ 25 → length l ≡ 288 → 160 ≤ rest → n ≤ j + 2 →
+                    ((i : ℕ) → markOf (tryCode m (at M (code ∷ stackOf cs j)) i) ≡ plain) → Turns x (passScene stack deeps l)
+                unfolding afterIn
+                at-passed stack deeps l p sl dl ll left last plains =
+                    let t : ℕ = suc (B - x .walk .left + between nx code) in
+                    let z : spotOf after ≡ settledIn M cs j (from (suc code) realCodes) = after-is ∙ ap (settledIn M cs j) (sym (from-after code)) in
+                    let a : listOf x ≡ listWalk M rest n (settledIn M (set cs j code) (suc j) realCodes) (suc r) t (x .walk .sized) =
+                    tried-is (O.goes (confAt m c code b)) (goes-is e) ∙ rw (lt-ltb (suc j) n h) in
+                    let w = list-whole M C n (set cs j code) (suc j) rest r t (x .walk .sized) (omega arith) (rw enter-stack plains)
+                    (omega (arith, codes-long)) in
+                    let u : t + 160 ≡ B - (rest - 160) = omega (arith, ne, enough, v .left) in
+                    let d : listOf x ≡ listOf (passScene stack deeps l) =
+                    a ∙ w ∙ rw (codes-long, back-is m cs j code (v .stands .long) j-small (v .stands .clean), u, some-room, z) in
+                    let i : Inv (passScene stack deeps l) =
+                    inv-on (passScene stack deeps l) (suc code) z p (omega (arith, fewer)) (omega (arith, v .sized, fewer)) (omega (arith, v .found, fewer))
+                    (sym run ∙ v .going) (λ f. absurd (clash true refl f)) ll sl dl in
+                    goes-on i (omega (arith, fewer)) d refl refl
+
+                -- the tests before it
+                abbrev quiet : Bool
+                quiet = quietAt rest j k (control .frame .slots) (m .lengths) (control .count)
+
+                abbrev soon : Bool
+                soon = passesSoon quiet deep (listedOf m)
+
+                abbrev late : Bool
+                late = passesLate quiet (workAt m c code .table) (control .frame .slots) (control .values) (control .vars) (m .actions)
+
+                parts-over : Parts m start J (set (x .stack) (j + 1) control) (set (x .deeps) (j + 1) deep) (workAt m c code .table) (b .count) records cs j
+                parts-over = record {
+                  good = parts .good;
+                  controls = λ i l. getD-set-other (x .stack) (j + 1) i control noControl (λ f. omega (arith, f, l)) ∙ parts .controls i l;
+                  depths = λ i l. rw (getD-set-other (x .deeps) (j + 1) i deep 0 (λ f. omega (arith, f, l))) (parts .depths i l);
+                  grown = grows;
+                  holds = J .less records (c .events) event holds;
+                }
+
+                at-soon : soon ≡ true → Turns x (passScene (x .stack) (x .deeps) (x .records))
+                at-soon f =
+                    let p = soon-parts quiet deep (listedOf m) f in
+                    let g = quiet-parts rest j k (control .frame .slots) (m .lengths) (control .count) (p .0) in
+                    at-passed (x .stack) (x .deeps) (x .records) parts-on (v .stack) (v .deeps) (v .records) (g .budget) (g .last)
+                    (Q .soon (code ∷ stackOf cs j) deep (rw (enter-at e) (g .calm)) (p .1) (rw (enter-at e, count-is) deep-bounds))
+
+                at-late : late ≡ true → Turns x (passScene (set (x .stack) (j + 1) control) (set (x .deeps) (j + 1) deep) records)
+                at-late f =
+                    let p = late-parts quiet (workAt m c code .table) (control .frame .slots) (control .values) (control .vars) (m .actions) f in
+                    let g = quiet-parts rest j k (control .frame .slots) (m .lengths) (control .count) (p .0) in
+                    at-passed (set (x .stack) (j + 1) control) (set (x .deeps) (j + 1) deep) records parts-over
+                    (length-set (x .stack) (j + 1) control ∙ v .stack) (length-set (x .deeps) (j + 1) deep ∙ v .deeps) records-long (g .budget) (g .last)
+                    (Q .late (code ∷ stackOf cs j) (rw (enter-at e) (g .calm)) (rw (enter-at e) (p .1)))
+
+                -- what the tests choose
+                abbrev chosen : Bool → Bool → Scene
+                chosen f g =
+                    pick f (passScene (x .stack) (x .deeps) (x .records))
+                    (scene (pick g spentWalk enterWalk) (set (x .stack) (j + 1) control) (set (x .deeps) (j + 1) deep)
+                    (workAt m c code .table) records (x .room))
+
+                by-tests : (f g : Bool) → soon ≡ f → late ≡ g → Turns x (chosen f g)
+                by-tests true g f l = at-soon f
+                by-tests false true f l = at-late l
+                by-tests false false f l = at-enter
+
+                abbrev gone : Walk
+                gone = past (x .walk) (codeAfter code) (between nx code + 1)
+
+                entered-is : sceneAfter m k
+                    (lent (turned (standsAt gone (gone .found) (gone .place) (b .count) true) true code b) (workAt m c code .table) (x .records) (x .room))
+                    (x .walk .place) s (getD (x .deeps) j 0) j (x .stack) (x .deeps) ≡ chosen soon late
+                unfolding past atCode spentAll pastLate
+                entered-is = rw push
+
+                at-entered : Turns x (turnedOn m k x)
+                at-entered =
+                    subst (Turns x)
+                    (sym (turned-is _ (T.turn-enter (x .table) (x .records) (x .room) s (x .walk) (sheetsOf m) k low enough
+                    (workAt m c code) b high ne cut-is o (judged ∙ e) (omega arith)) ∙ entered-is))
+                    (by-tests soon late refl refl)
 
               at-done : Turns x (turnedOn m k x)
               at-done = go (breaksClaim (m .claim) (c .events) event) refl (ltb (suc j) n) refl
                 where
                   go : (a : Bool) → breaksClaim (m .claim) (c .events) event ≡ a → (q : Bool) → ltb (suc j) n ≡ q → Turns x (turnedOn m k x)
                   go true e q f = at-found e
-                  go false e true f = at-enter e (ltb-true (suc j) n f)
+                  go false e true f = at-entered e (ltb-true (suc j) n f)
                   go false e false f = at-bound e (ltb-false (suc j) n f)
 
             at-tried : (a : Worked) → workAt m c code .out ≡ a → Turns x (turnedOn m k x)

@@ -29,7 +29,7 @@ use Rattle.search.specs.Place.{settled}
 use Rattle.search.specs.Answer.{listed, refusedListing, roomFor}
 use Rattle.search.specs.Enter.{inBounds, controlAt, climb, Climbed, enterOn}
 use Rattle.search.specs.Turn.{walk}
-use Rattle.search.specs.Search.{Scene, scene, walkIn, walkOn, firstWalk, walkFrom, task, boundFits, listingEntered, listingOn}
+use Rattle.search.specs.Search.{Scene, scene, walkIn, walkOn, firstWalk, deepsOf, walkFrom, task, boundFits, listingEntered, listingOn}
 use Rattle.search.specs.Shown.{spotOf, placeAt, tidied, fitsOn, listingShown}
 use Rattle.search.specs.declared.place.Place.{Place}
 use Rattle.search.specs.declared.answer.Kind.{Kind}
@@ -38,9 +38,9 @@ use Rattle.search.specs.declared.enter.Entered.{Entered}
 use Rattle.search.proofs.Codes.{isNext, among-code, labels-coded}
 use Rattle.search.proofs.Along.{Sane}
 use Rattle.search.proofs.JoinPlace.{settle-is}
-use Rattle.search.proofs.JoinStand.{Judging, there, stands-from}
+use Rattle.search.proofs.JoinStand.{Judging, Quiet, there, stands-from}
 use Rattle.search.proofs.JoinWalk.{Inv, listOf, Shows, walk-join}
-use Rattle.search.proofs.JoinEnter.{Entry, Enters, enter-join, entry-parts, entry-tidied}
+use Rattle.search.proofs.JoinEnter.{deeps-long, Entry, Enters, enter-join, entry-parts, entry-tidied}
 
 -- a sound model's fresh configuration
 pub fresh-sane : (m : Model) → length (m .lines) ≡ 512 → soundModel m ≡ true → Sane (labels m .fresh)
@@ -98,7 +98,7 @@ listing-path : {k k′ : Kind} {f f′ t t′ z z′ : ℕ} {p p′ : Place} {r 
     held (listed k f t z p) r ≡ held (listed k′ f′ t′ z′ p′) r′
 listing-path a b c d e f = λ x. held (listed (a x) (b x) (c x) (d x) (e x)) (f x)
 
-module _ (m : Model) (long : length (m .lines) ≡ 512) (sound : soundModel m ≡ true) (J : Judging m) (n : ℕ) (bound : boundFits n ≡ true)
+module _ (m : Model) (long : length (m .lines) ≡ 512) (sound : soundModel m ≡ true) (J : Judging m) (Q : Quiet m) (n : ℕ) (bound : boundFits n ≡ true)
     (p : Place) (codes : length (p .codes) ≡ 24) (b : ℕ) (limit : b ≤ 4294967295) (room : List ℕ) where
   abbrev M : Machine
   M = labels m
@@ -141,7 +141,7 @@ module _ (m : Model) (long : length (m .lines) ≡ 512) (sound : soundModel m �
 
       abbrev x : Scene
       x = scene (walk (settled (e .out .place)) b 0 0 (controlAt (e .out .stack) (e .out .place .length) .count) (ltb 0 (roomFor room)) Found)
-          (e .out .stack) (e .table) (e .records) room
+          (e .out .stack) (deepsOf (e .table) (e .out .stack)) (e .table) (e .records) room
 
       len-is : e .out .place .length ≡ p .length
       len-is = v .len
@@ -158,10 +158,11 @@ module _ (m : Model) (long : length (m .lines) ≡ 512) (sound : soundModel m �
           settle-is m (e .out .place) (omega (arith, len-is, short)) (ap isNext next-is ∙ bounds-parts p n inside .1)
           ∙ ap₂ (λ (i k : ℕ). settledIn M cs i (from k realCodes)) len-is next-is
 
-      inv : Inv m start J n small b limit x
+      inv : Inv m start J Q n small b limit x
       inv = record {
         stands = rw (place-is, filled-is)
-            (stands-from m start J (e .out .stack) (e .table) (there m start J cs (p .length) .control .count) (e .records) n cs (p .length) (p .next)
+            (stands-from m start J (e .out .stack) (deepsOf (e .table) (e .out .stack)) (e .table)
+            (there m start J cs (p .length) .control .count) (e .records) n cs (p .length) (p .next)
             (entry-parts m start J p codes short (climb (e .out .stack) (e .out .place) (e .table) (e .records)) v) (v .long) (v .clean)
             (bounds-parts p n inside .0));
         settled = subst (Settled M) (sym place-is) (settle-twice M (labels-coded m) n cs (p .length) (from (p .next) realCodes) (p .next) refl);
@@ -172,9 +173,10 @@ module _ (m : Model) (long : length (m .lines) ≡ 512) (sound : soundModel m �
         kind = λ f. refl;
         records = v .records;
         stack = v .stack;
+        deeps = deeps-long (e .table) (e .out .stack) ∙ v .stack;
       }
 
-      list-is : listOf m start J n small b limit x ≡ listIn M n (roomFor room) b (tidied p)
+      list-is : listOf m start J Q n small b limit x ≡ listIn M n (roomFor room) b (tidied p)
       unfolding listIn
       list-is =
           let z : roomFor room - 0 ≡ roomFor room = omega arith in
@@ -190,8 +192,8 @@ module _ (m : Model) (long : length (m .lines) ≡ 512) (sound : soundModel m �
       unfolding walkFrom walkOn firstWalk
       walked-is = entered-is ∙ rw (E .good ∙ good)
 
-      shown : Shows m start J n small b limit x y (listIn M n (roomFor room) b (tidied p))
-      shown = subst (Shows m start J n small b limit x y) list-is (walk-join m start J n small b limit (b + 1) x inv (omega arith))
+      shown : Shows m start J Q n small b limit x y (listIn M n (roomFor room) b (tidied p))
+      shown = subst (Shows m start J Q n small b limit x y) list-is (walk-join m start J Q n small b limit (b + 1) x inv (omega arith))
 
       good-is : listingOn m n p b room ≡ listingShown room (listIn M n (roomFor room) b (tidied p))
       good-is =

@@ -13,18 +13,24 @@ use borrow.Author.Tests.{ltb-true}
 use Rattle.terms.specs.Base.{pick}
 use Rattle.model.specs.declared.records.Model.{Model}
 use Rattle.state.specs.declared.control.Control.{Control}
+use Rattle.rules.specs.Event.{recordOf, recordPut}
+use Rattle.rules.specs.Happened.{happenedOn}
+use Rattle.rules.specs.Made.{controlAfter}
 use Rattle.rules.specs.Step.{stepOn}
-use Rattle.search.specs.Place.{atCode, levelOf, codePut, codeIn, popped, isDone, settleIn, settled}
+use Rattle.rules.specs.declared.event.Happening.{Happening}
+use Rattle.quiet.specs.Quiet.{deepest}
+use Rattle.search.specs.Place.{atCode, levelOf, pushed, codePut, codeIn, popped, isDone, settleIn, settled}
 use Rattle.law.specs.Rules.{layoutOf}
 use Rattle.search.specs.Enter.{controlAt, Climb, Climbed, entered, enterStep, enterIn}
-use Rattle.search.specs.Turn.{Lent, lent, Sheets, turnOn}
-use Rattle.search.specs.Search.{Scene, turnedOn, walkIn, walkOn}
+use Rattle.search.specs.Turn.{standsAt, Lent, lent, Sheets, turnOn}
+use Rattle.search.specs.Search.{Scene, scene, sheetsOf, quietAt, passesSoon, passesLate, spentAll, pastLate, enteredBy, sceneAfter, deepAt}
+use Rattle.search.specs.Search.{turnedOn, walkIn, walkOn}
 use Rattle.search.specs.declared.place.Place.{Place}
 use Rattle.search.specs.declared.enter.Entered.{Entered}
 use Rattle.search.specs.declared.turn.Walk.{Walk}
 use Rattle.search.specs.declared.turn.Turned.{Turned}
 use Rattle.search.specs.declared.turn.Task.{Task}
-use Rattle.search.proofs.Falls.{turnsLeft, turn-falls}
+use Rattle.search.proofs.Falls.{turnsLeft, turns-fall, turn-falls, turn-enters}
 
 -- a level below 24 is the length itself
 pub level-is : (n : ℕ) → n < 24 → levelOf n ≡ n
@@ -103,17 +109,97 @@ module _ (codes space : List ℕ) (i : ℕ) where
   pub copy-end : length codes ≤ i → length space ≤ i + 1 → take i codes ++ drop (i + 1) space ≡ codes
   copy-end h g = rw (take-all i codes h, drop-of-length-le space g, append-nil)
 
--- a turn leaves fewer turns
-pub turn-less : (w : Walk) (r : Turned) (t₁ l₁ room₁ t l room : List ℕ) (s : Control) (g : Sheets) (k : Task)
-    → lent r t₁ l₁ room₁ ≡ turnOn t l room s w g k → w .going ≡ true → turnsLeft (r .walk) < turnsLeft w
-turn-less w r t₁ l₁ room₁ t l room s g k e h =
-    rw h (subst (λ (y : Lent Turned). turnsLeft (y .out .walk) < w .left + 1) (sym e) (turn-falls w t l room s g k))
+-- a turn leaves fewer turns, and so does what is passed after it
+module _ (w : Walk) (r : Turned) (t₁ l₁ room₁ t l room : List ℕ) (s : Control) (g : Sheets) (k : Task)
+    (e : lent r t₁ l₁ room₁ ≡ turnOn t l room s w g k) (h : w .going ≡ true) where
+  pub turn-less : turnsLeft (r .walk) < turnsLeft w
+  turn-less = rw h (subst (λ (y : Lent Turned). turnsLeft (y .out .walk) < w .left + 1) (sym e) (turn-falls w t l room s g k))
+
+  pub enter-less : (v : Walk) → r .enters ≡ true → v .left ≤ r .walk .left → turnsLeft v < turnsLeft w
+  enter-less v i o =
+      let less : r .walk .left < w .left =
+      subst (λ (y : Lent Turned). y .out .enters ≡ true → y .out .walk .left < w .left) (sym e) (turn-enters w t l room s g k) i in
+      rw h (turns-fall v (w .left) (omega arith))
+
+pub spent-most : (w : Walk) → spentAll w .left ≤ w .left
+unfolding spentAll
+spent-most w = omega arith
+
+late-most : (b : Bool) (w : Walk) (q : Place) (count : ℕ) → pick b (spentAll w) (standsAt w (w .found) q count true) .left ≤ w .left
+late-most true w q count = spent-most w
+late-most false w q count = omega arith
+
+pub past-late-most : (w : Walk) (q : Place) (count : ℕ) (quiet : Bool) (t slots values vars actions : List ℕ)
+    → pastLate w q count quiet t slots values vars actions .left ≤ w .left
+unfolding pastLate
+past-late-most w q count quiet t slots values vars actions = late-most (passesLate quiet t slots values vars actions) w q count
 
 -- the walk
 module _ (m : Model) (k : Task) where
+  left-by : (b : Bool) (y z : Scene) (n : ℕ) → y .walk .left ≤ n → z .walk .left ≤ n → pick b y z .walk .left ≤ n
+  left-by true y z n h g = h
+  left-by false y z n h g = g
+
+  module _ (quiet : Bool) (r : Lent Turned) (p : Place) (h : Happening) (c : Control) (d level : ℕ) (stack : List Control) (deeps : List ℕ) where
+    entered-left : enteredBy m k quiet r p h c d level stack deeps .walk .left ≤ r .out .walk .left
+    entered-left =
+        let w : Walk = r .out .walk in
+        let q : Place = pushed p (r .out .code) in
+        let n : ℕ = r .out .labels .count in
+        left-by
+        (passesSoon quiet d (k .listed))
+        (scene (spentAll w) stack deeps (r .table) (r .records) (r .room))
+        (scene
+        (pastLate w q n quiet (r .table) (c .frame .slots) (c .values) (c .vars) (m .actions))
+        (set stack (level + 1) c)
+        (set deeps (level + 1) d)
+        (r .table)
+        (recordPut (r .records) (p .length) (recordOf h))
+        (r .room))
+        (w .left)
+        (spent-most w)
+        (past-late-most w q n quiet (r .table) (c .frame .slots) (c .values) (c .vars) (m .actions))
+
+  falls-by : (b : Bool) (n : ℕ) (r : Turned) (y z : Scene) → r .enters ≡ b → turnsLeft (r .walk) < n + 1 → (r .enters ≡ true → r .walk .left < n)
+      → y .walk .left ≤ r .walk .left → turnsLeft (z .walk) ≡ turnsLeft (r .walk) → turnsLeft (pick b y z .walk) < n + 1
+  falls-by true n r y z e h g f i = turns-fall (y .walk) n (omega (arith, g e))
+  falls-by false n r y z e h g f i = rw i h
+
+  after-falls : (n : ℕ) (r : Lent Turned) (p : Place) (s : Control) (d level : ℕ) (stack : List Control) (deeps : List ℕ)
+      → turnsLeft (r .out .walk) < n + 1 → (r .out .enters ≡ true → r .out .walk .left < n)
+      → turnsLeft (sceneAfter m k r p s d level stack deeps .walk) < n + 1
+  after-falls n r p s d level stack deeps h g =
+      let e : Happening = happenedOn (s .frame) (m .actions) (m .lengths) (r .out .code) (r .out .labels) in
+      let c : Control = controlAfter s (layoutOf m) (r .out .code) (r .out .labels) in
+      let deep : ℕ = deepest (r .table) d (s .count) (r .out .labels .count) in
+      let quiet : Bool = quietAt (r .out .walk .left) (p .length) k (c .frame .slots) (m .lengths) (c .count) in
+      falls-by
+      (r .out .enters)
+      n
+      (r .out)
+      (enteredBy m k quiet r p e c deep level stack deeps)
+      (scene (r .out .walk) stack deeps (r .table) (r .records) (r .room))
+      refl
+      h
+      g
+      (entered-left quiet r p e c deep level stack deeps)
+      refl
+
   turned-falls : (x : Scene) → turnsLeft (turnedOn m k x .walk) < x .walk .left + 1
   unfolding turnedOn
-  turned-falls x = turn-falls (x .walk) (x .table) (x .records) (x .room) _ _ k
+  turned-falls x =
+      let s : Control = controlAt (x .stack) (x .walk .place .length) in
+      after-falls
+      (x .walk .left)
+      (turnOn (x .table) (x .records) (x .room) s (x .walk) (sheetsOf m) k)
+      (x .walk .place)
+      s
+      (deepAt (x .deeps) (x .walk .place .length))
+      (levelOf (x .walk .place .length))
+      (x .stack)
+      (x .deeps)
+      (turn-falls (x .walk) (x .table) (x .records) (x .room) s (sheetsOf m) k)
+      (turn-enters (x .walk) (x .table) (x .records) (x .room) s (sheetsOf m) k)
 
   rests : (j : ℕ) (x : Scene) → x .walk .going ≡ false → walkIn j m k x ≡ x
   unfolding walkIn

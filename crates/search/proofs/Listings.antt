@@ -32,6 +32,7 @@ use Rattle.search.specs.declared.answer.Listing.{Listing}
 use Rattle.search.proofs.Codes.{labels-coded}
 use Rattle.search.proofs.JoinRoom.{clean-padded}
 use Rattle.search.proofs.JoinJudge.{judging}
+use Rattle.search.proofs.JoinQuiet.{quiet-along}
 use Rattle.search.proofs.Joined.{bound-parts, listing-refused, listing-is}
 use Rattle.search.proofs.Searched.{same-place, short, tidied-ok}
 use Rattle.search.proofs.Promises.{start-first, start-good}
@@ -67,7 +68,8 @@ module _ (m : Model) (arrays : Arrays m) (sound : soundModel m ≡ true) (n : �
   pub listing-unfit : (p : Place) (b : ℕ) (room : List ℕ) → length (p .codes) ≡ 24 → GoodBudget b → fitsOn m n p ≡ false →
       listingOn m n p b room ≡ held (refusedListing 40) room
   listing-unfit p b room long limit e =
-      listing-refused m (arrays .lines) sound (judging m (test-model {m = m} (arrays .lines) sound) (arrays .path)) n bound p long b limit room e
+      listing-refused m (arrays .lines) sound (judging m (test-model {m = m} (arrays .lines) sound) (arrays .path)) (quiet-along m arrays sound)
+      n bound p long b limit room e
 
   module _ (p : Place) (b : ℕ) (room : List ℕ) (good : GoodPlace m n p) (can : GoodBudget b) where
     abbrev l : Listed Spot
@@ -75,8 +77,8 @@ module _ (m : Model) (arrays : Arrays m) (sound : soundModel m ≡ true) (n : �
 
     -- S1 for a listing
     pub listing-shows : listingOn m n p b room ≡ listingShown room (listIn (labels m) n (roomFor room) b (tidied p))
-    listing-shows = listing-is m (arrays .lines) sound (judging m (test-model {m = m} (arrays .lines) sound) (arrays .path)) n bound p
-        (good .1) b can room (good .0)
+    listing-shows = listing-is m (arrays .lines) sound (judging m (test-model {m = m} (arrays .lines) sound) (arrays .path)) (quiet-along m arrays sound)
+        n bound p (good .1) b can room (good .0)
 
     ok : Ok M n 24 (tidied p)
     ok = tidied-ok m arrays sound n bound p good

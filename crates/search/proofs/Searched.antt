@@ -30,6 +30,7 @@ use Rattle.search.specs.declared.answer.Answer.{Answer}
 use Rattle.search.proofs.Codes.{labels-coded}
 use Rattle.search.proofs.JoinEnter.{stack-same}
 use Rattle.search.proofs.JoinJudge.{judging}
+use Rattle.search.proofs.JoinQuiet.{quiet-along}
 use Rattle.search.proofs.Joined.{bound-parts, listing-refused, listing-is}
 
 -- Refusals
@@ -80,7 +81,7 @@ module _ (m : Model) (arrays : Arrays m) (sound : soundModel m ≡ true) (n : �
   unfolding searchOn
   search-unfit p b long limit e =
       ap answerOf (listing-refused m (arrays .lines) sound
-      (judging m (test-model {m = m} (arrays .lines) sound) (arrays .path)) n bound p long b limit (replicate 25 0) e)
+      (judging m (test-model {m = m} (arrays .lines) sound) (arrays .path)) (quiet-along m arrays sound) n bound p long b limit (replicate 25 0) e)
       ∙ refused-one 40
 
   -- the place with 0 past its schedule is the same place
@@ -110,8 +111,8 @@ module _ (m : Model) (arrays : Arrays m) (sound : soundModel m ≡ true) (n : �
       let a : Reply Spot = searchIn M n b (tidied p) in
       let r : (w : List ℕ) → a .kind ≡ R.found w → length w ≤ 24 =
       λ w e. omega (arith, found-short M (labels-coded m) n 24 (bound-parts n bound .1) b (tidied p) (tidied-ok p g) w e, bound-parts n bound .1) in
-      ap answerOf (listing-is m (arrays .lines) sound (judging m (test-model {m = m} (arrays .lines) sound) (arrays .path)) n bound p (g .1) b limit
-      (replicate 25 0) (g .0))
+      ap answerOf (listing-is m (arrays .lines) sound (judging m (test-model {m = m} (arrays .lines) sound) (arrays .path)) (quiet-along m arrays sound)
+      n bound p (g .1) b limit (replicate 25 0) (g .0))
       ∙ ap (λ (k : ℕ). answerOf (listingShown (replicate 25 0) (listIn M n k b (tidied p)))) room-one
       ∙ ap (λ (l : Listed Spot). answerOf (listingShown (replicate 25 0) l)) (list-one M (labels-coded m) n b (tidied p))
       ∙ by-kind (a .kind) (a .tries) (a .sizes) (a .place) r

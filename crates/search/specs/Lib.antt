@@ -3,6 +3,7 @@
 pub mod Labels
 pub mod Place
 pub mod Answer
+pub mod Rows
 pub mod Enter
 pub mod Turn
 pub mod Search

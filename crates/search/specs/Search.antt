@@ -2,21 +2,26 @@
 -- a search, which is a listing with room for one.
 use Prim.Native.Nat.{ℕ, zero, suc, _+_, _-_}
 use mathlib.Core.Bool.{Bool, true, false, not}
-use mathlib.Core.List.{List}
-use lib.ListN.{set, replicate}
+use mathlib.Core.List.{List, map}
+use lib.ListN.{getD, set, replicate}
 use lib.Dec.{eqb, ltb, leb}
 use Rattle.terms.specs.Base.{pick, Held, held}
 use Rattle.model.specs.declared.records.Model.{Model}
 use Rattle.state.specs.declared.control.Control.{Control}
+use Rattle.rules.specs.Event.{recordOf, recordPut}
+use Rattle.rules.specs.Happened.{happenedOn}
 use Rattle.rules.specs.Made.{controlAfter}
+use Rattle.rules.specs.declared.event.Happening.{Happening}
 use Rattle.audit.specs.Models.{soundModel}
-use Rattle.search.specs.Place.{levelOf, settled}
+use Rattle.quiet.specs.Quiet.{deepest, allFit, calm, shallow, listedOf}
+use Rattle.quiet.specs.declared.quiet.Listed.{Listed}
+use Rattle.search.specs.Place.{levelOf, pushed, settled}
 use Rattle.search.specs.Answer.{listed, refusedListing, roomFor, answerOf}
 use Rattle.law.specs.Rules.{layoutOf}
 use Rattle.search.specs.Enter.{inBounds, controlAt, Climbed, enterOn}
-use Rattle.search.specs.Turn.{walk, Lent, lent, Sheets, sheets, turnOn}
+use Rattle.search.specs.Turn.{walk, standsAt, Lent, lent, Sheets, sheets, turnOn}
 use Rattle.search.specs.declared.place.Place.{Place}
-use Rattle.search.specs.declared.answer.Kind.the-variants.{Found}
+use Rattle.search.specs.declared.answer.Kind.the-variants.{Found, End}
 use Rattle.search.specs.declared.answer.Answer.{Answer}
 use Rattle.search.specs.declared.answer.Listing.{Listing}
 use Rattle.search.specs.declared.enter.Entered.{Entered}
@@ -24,33 +29,91 @@ use Rattle.search.specs.declared.turn.Walk.{Walk}
 use Rattle.search.specs.declared.turn.Turned.{Turned}
 use Rattle.search.specs.declared.turn.Task.{Task}
 
--- what changes in a walk: the walk, the configuration of each shorter schedule, the term table, the records, the room
+-- what changes in a walk: the walk, the configuration of each shorter schedule, the depth of its deepest term, the term table,
+-- the records, the room
 pub record Scene : Type 0 where
   pub walk : Walk
   pub stack : List Control
+  pub deeps : List ℕ
   pub table : List ℕ
   pub records : List ℕ
   pub room : List ℕ
 
-abbrev pub scene : Walk → List Control → List ℕ → List ℕ → List ℕ → Scene
-scene w stack t l room = record { walk = w; stack = stack; table = t; records = l; room = room }
+abbrev pub scene : Walk → List Control → List ℕ → List ℕ → List ℕ → List ℕ → Scene
+scene w stack deeps t l room = record { walk = w; stack = stack; deeps = deeps; table = t; records = l; room = room }
 
 abbrev pub sheetsOf : Model → Sheets
 sheetsOf m = sheets (m .actions) (m .lengths) (m .locations)
 
--- where a schedule is entered its configuration, the step made from s, is kept at the next level
-abbrev pub stackAfter : Model → Turned → Control → ℕ → List Control → List Control
-stackAfter m r s level stack = pick (r .enters) (set stack (level + 1) (controlAfter s (layoutOf m) (r .code) (r .labels))) stack
+-- nothing is entered from a schedule that is one longer than n, and there is budget for all its codes
+unfoldable pub atLast : ℕ → ℕ → ℕ → Bool
+atLast left n bound = pick (ltb left 160) false (leb bound (n + 2))
 
-abbrev pub sceneAfter : Model → Lent Turned → Control → ℕ → List Control → Scene
-sceneAfter m r s level stack = scene (r .out .walk) (stackAfter m (r .out) s level stack) (r .table) (r .records) (r .room)
+-- such a schedule, with these slots and count: no code can break the claim, and there is room
+unfoldable pub quietAt : ℕ → ℕ → Task → List ℕ → List ℕ → ℕ → Bool
+quietAt left n k slots lengths count = pick (atLast left n (k .bound)) (calm slots lengths count (k .listed)) false
 
-abbrev pub sceneFrom : Model → Task → Scene → Control → ℕ → Scene
-sceneFrom m k x s level = sceneAfter m (turnOn (x .table) (x .records) (x .room) s (x .walk) (sheetsOf m) k) s level (x .stack)
+-- its codes are all plain, by the depths of its terms, or by the operands of its next actions
+unfoldable pub passesSoon : Bool → ℕ → Listed → Bool
+passesSoon quiet deep g = pick quiet (shallow deep g) false
+
+unfoldable pub passesLate : Bool → List ℕ → List ℕ → List ℕ → List ℕ → List ℕ → Bool
+passesLate quiet t slots values vars actions = pick quiet (allFit t slots values vars actions) false
+
+-- all codes of a schedule are passed
+unfoldable pub spentAll : Walk → Walk
+spentAll w = walk (w .place) (w .left - 160) (w .sized) (w .found) (w .filled) true End
+
+-- the walk at the longer schedule q, or past it where all its codes are plain
+unfoldable pub pastLate : Walk → Place → ℕ → Bool → List ℕ → List ℕ → List ℕ → List ℕ → List ℕ → Walk
+pastLate w q count quiet t slots values vars actions =
+    pick (passesLate quiet t slots values vars actions) (spentAll w) (standsAt w (w .found) q count true)
+
+-- the schedule q with configuration c, deepest term d and last event h is entered from the one at a level; its 160 codes are
+-- passed at once where they are all plain
+abbrev pub enteredBy : Model → Task → Bool → Lent Turned → Place → Happening → Control → ℕ → ℕ → List Control → List ℕ → Scene
+enteredBy m k quiet r p h c d level stack deeps =
+    pick (passesSoon quiet d (k .listed)) (scene (spentAll (r .out .walk)) stack deeps (r .table) (r .records) (r .room))
+    (scene
+    (pastLate (r .out .walk) (pushed p (r .out .code)) (r .out .labels .count) quiet (r .table) (c .frame .slots) (c .values) (c .vars) (m .actions))
+    (set stack (level + 1) c)
+    (set deeps (level + 1) d)
+    (r .table)
+    (recordPut (r .records) (p .length) (recordOf h))
+    (r .room))
+
+abbrev pub enteredFrom : Model → Task → Lent Turned → Place → Happening → Control → ℕ → ℕ → List Control → List ℕ → Scene
+enteredFrom m k r p h c d level stack deeps =
+    enteredBy m k (quietAt (r .out .walk .left) (p .length) k (c .frame .slots) (m .lengths) (c .count)) r p h c d level stack deeps
+
+-- where a schedule is entered from the place p its configuration is the step made from s, whose deepest term is at depth d
+abbrev pub sceneAfter : Model → Task → Lent Turned → Place → Control → ℕ → ℕ → List Control → List ℕ → Scene
+sceneAfter m k r p s d level stack deeps =
+    pick (r .out .enters)
+    (enteredFrom
+    m
+    k
+    r
+    p
+    (happenedOn (s .frame) (m .actions) (m .lengths) (r .out .code) (r .out .labels))
+    (controlAfter s (layoutOf m) (r .out .code) (r .out .labels))
+    (deepest (r .table) d (s .count) (r .out .labels .count))
+    level
+    stack
+    deeps)
+    (scene (r .out .walk) stack deeps (r .table) (r .records) (r .room))
+
+abbrev pub sceneFrom : Model → Task → Scene → Control → ℕ → ℕ → Scene
+sceneFrom m k x s d level =
+    sceneAfter m k (turnOn (x .table) (x .records) (x .room) s (x .walk) (sheetsOf m) k) (x .walk .place) s d level (x .stack) (x .deeps)
+
+abbrev pub deepAt : List ℕ → ℕ → ℕ
+deepAt deeps n = getD deeps (levelOf n) 0
 
 -- one turn
 unfoldable pub turnedOn : Model → Task → Scene → Scene
-turnedOn m k x = sceneFrom m k x (controlAt (x .stack) (x .walk .place .length)) (levelOf (x .walk .place .length))
+turnedOn m k x =
+    sceneFrom m k x (controlAt (x .stack) (x .walk .place .length)) (deepAt (x .deeps) (x .walk .place .length)) (levelOf (x .walk .place .length))
 
 abbrev pub goingOn : Bool → Scene → (Scene → Scene) → Scene
 goingOn true x rest = rest x
@@ -73,12 +136,17 @@ firstWalk e budget going =
 abbrev pub lentScene : Scene → Lent Walk
 lentScene x = lent (x .walk) (x .table) (x .records) (x .room)
 
+-- the depth of the deepest term of each configuration
+unfoldable pub deepsOf : List ℕ → List Control → List ℕ
+deepsOf t stack = map (λ (s : Control). deepest t 0 0 (s .count)) stack
+
 -- the walk from a place that was entered
 unfoldable pub walkFrom : List ℕ → List ℕ → List ℕ → Model → Entered → ℕ → Task → Lent Walk
-walkFrom t l room m e budget k = lentScene (walkOn m k (scene (firstWalk e budget (ltb 0 (roomFor room))) (e .stack) t l room))
+walkFrom t l room m e budget k =
+    lentScene (walkOn m k (scene (firstWalk e budget (ltb 0 (roomFor room))) (e .stack) (deepsOf t (e .stack)) t l room))
 
 abbrev pub task : Model → ℕ → Task
-task m bound = record { claim = m .claim; machines = m .«machine_count»; bound = bound }
+task m bound = record { claim = m .claim; machines = m .«machine_count»; bound = bound; listed = listedOf m }
 
 -- "Bound 1 to 24, else 41"
 unfoldable pub boundFits : ℕ → Bool

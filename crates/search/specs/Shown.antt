@@ -105,4 +105,6 @@ GoodBudget b = b ≤ 4294967295
 -- what the types of a model's arrays say of their lengths, as far as the search needs it
 pub record Arrays (m : Model) : Type 0 where
   pub lines : length (m .lines) ≡ 512
+  pub threads : length (m .threads) ≡ 8
+  pub locations : length (m .locations) ≡ 32
   pub path : length (m .claim .path) ≡ 4

@@ -9,14 +9,12 @@ use Rattle.terms.specs.Table.{cutTo}
 use Rattle.state.specs.Code.{codesBelow, codeFrom, codeAfter}
 use Rattle.state.specs.Seek.{sightOf, seekFrom}
 use Rattle.state.specs.declared.control.Control.{Control}
-use Rattle.rules.specs.Event.{recordOf, recordPut}
-use Rattle.rules.specs.Happened.{happenedOn}
+use Rattle.rules.specs.Happened.{endedOn}
 use Rattle.rules.specs.Work.{noLabels, workOn}
-use Rattle.rules.specs.declared.event.Happening.{Happening}
 use Rattle.rules.specs.declared.work.Labels.{Labels}
 use Rattle.rules.specs.declared.work.Worked.{Worked}
 use Rattle.rules.specs.declared.work.Worked.the-variants as W
-use Rattle.machine.specs.Judge.{breaksOn}
+use Rattle.machine.specs.Judge.{brokenBy}
 use Rattle.search.specs.Place.{atCode, pushed, settled}
 use Rattle.search.specs.Answer.{roomFor, schedulePut}
 use Rattle.search.specs.declared.place.Place.{Place}
@@ -76,28 +74,9 @@ turned w enters code l = record { walk = w; enters = enters; code = code; labels
 abbrev pub still : Walk → Turned
 still w = turned w false 0 (noLabels 0)
 
--- an answer, and the records and the room as they are left
-pub record Noted (A : Type 0) : Type 0 where
-  pub out : A
-  pub records : List ℕ
-  pub room : List ℕ
-
-abbrev pub noted : {A : Type 0} → A → List ℕ → List ℕ → Noted A
-noted r l room = record { out = r; records = l; room = room }
-
-abbrev pub notedFound : Held Walk → List ℕ → Noted Turned
-notedFound r l = noted (still (r .out)) l (r .table)
-
--- a schedule that breaks the claim is found and not entered; another is entered where it is shorter than the bound
-abbrev pub permittedBy : List ℕ → List ℕ → Walk → Place → ℕ → Labels → Task → Noted Turned
-permittedBy l room v q code k t =
-    pick (breaksOn l (q .length - 1) (t .claim)) (notedFound (foundOn room v q (k .count)) l)
-    (pick (leb (t .bound) (q .length)) (noted (still (standsAt v (v .found) (v .place) (k .count) true)) l room)
-    (noted (turned (standsAt v (v .found) q (k .count) true) true code k) l room))
-
--- a permitted code: v is the walk gone past it, q the schedule with it, whose event stands at the place of its last code
-unfoldable pub permittedOn : List ℕ → List ℕ → Walk → Place → Happening → ℕ → Labels → Task → Noted Turned
-permittedOn l room v q h code k t = permittedBy (recordPut l (q .length - 1) (recordOf h)) room v q code k t
+-- a permitted code that breaks nothing: the longer schedule is entered where it is shorter than the bound
+unfoldable pub entering : Walk → ℕ → ℕ → Labels → ℕ → Turned
+entering v n code b bound = turned (standsAt v (v .found) (v .place) (b .count) true) (ltb (n + 1) bound) code b
 
 -- an answer, and the term table, the records and the room as they are left
 pub record Lent (A : Type 0) : Type 0 where
@@ -109,8 +88,8 @@ pub record Lent (A : Type 0) : Type 0 where
 abbrev pub lent : {A : Type 0} → A → List ℕ → List ℕ → List ℕ → Lent A
 lent r t l room = record { out = r; table = t; records = l; room = room }
 
-abbrev pub lentNoted : Noted Turned → List ℕ → Lent Turned
-lentNoted r t = lent (r .out) t (r .records) (r .room)
+abbrev pub lentFound : Held Walk → List ℕ → List ℕ → Lent Turned
+lentFound r t l = lent (still (r .out)) t l (r .table)
 
 -- what the walk reads of a model
 pub record Sheets : Type 0 where
@@ -125,7 +104,9 @@ sheets actions lengths locations = record { actions = actions; lengths = lengths
 abbrev pub triedBy : Worked → List ℕ → List ℕ → List ℕ → Control → Walk → Place → Sheets → ℕ → Task → Lent Turned
 triedBy (W.Refused n) t l room s v p g code k = lent (still (refusedBy v n)) t l room
 triedBy (W.Done b) t l room s v p g code k =
-    lentNoted (permittedOn l room v (pushed p code) (happenedOn (s .frame) (g .actions) (g .lengths) code b) code b k) t
+    pick (brokenBy l (p .length) (endedOn (s .frame .slots) (g .actions) (g .lengths) code) (k .claim))
+    (lentFound (foundOn room v (pushed p code) (b .count)) t l)
+    (lent (entering v (p .length) code b (k .bound)) t l room)
 
 abbrev pub triedWith : Held Worked → List ℕ → List ℕ → Control → Walk → Place → Sheets → ℕ → Task → Lent Turned
 triedWith r l room s v p g code k = triedBy (r .out) (r .table) l room s v p g code k

@@ -8,5 +8,6 @@
 pub mod answer;
 pub mod enter;
 pub mod place;
+pub mod rows;
 pub mod search;
 pub mod turn;

@@ -10,17 +10,36 @@ use crate::enter::enter;
 use crate::enter::in_bounds;
 use crate::place::Place;
 use crate::place::level_of;
+use crate::place::pushed;
 use crate::place::settled;
+use crate::rows::count_rows;
+use crate::rows::counters_of;
+use crate::rows::counts_of;
+use crate::rows::lock_rows;
+use crate::rows::passes_soon;
+use crate::rows::past_late;
+use crate::rows::quiet_at;
+use crate::rows::slot_rows;
+use crate::rows::spent_all;
+use crate::rows::value_rows;
+use crate::rows::var_rows;
 use crate::turn::Task;
 use crate::turn::Walk;
 use crate::turn::turn;
 use audit::models::sound_model;
 use model::records::Model;
-use rules::made::made;
+use quiet::depths::deepest;
+use quiet::quiet::Listed;
+use rules::event::record_of;
+use rules::event::write_record;
+use rules::happened::happened;
+use rules::made::rest_made;
+use rules::made::slots_made;
 ghost use mathlib.Core.Path.{_≡_};
 ghost use Prim.Native.Nat.{_-_};
 ghost use lib.ListN.{drop};
 ghost use Rattle.terms.specs.Base.{held};
+ghost use Rattle.quiet.specs.Quiet.{listedOf};
 ghost use Rattle.search.specs.Turn.{lent};
 ghost use Rattle.search.specs.Search.{firstWalk, walkFrom, boundFits, listingOn, searchOn};
 
@@ -80,6 +99,7 @@ pub fn listing(m: Model, bound: u8, place: Place, budget: u32, room: &mut [u8]) 
         claim,
         machines: m.machine_count,
         bound,
+        listed: listed_in(m),
     };
     let w = walk(&mut t, records, room, m, e, budget, k);
     let kind = w.kind;
@@ -90,6 +110,19 @@ pub fn listing(m: Model, bound: u8, place: Place, budget: u32, room: &mut [u8]) 
         tries: spent(budget, w.left),
         sized: w.sized,
         place: after,
+    }
+}
+
+// What the tests for plain codes go by.
+fn listed_in(m: Model) -> Listed
+    ensures { λ r. ⌜ r ≡ listedOf m ⌝ }
+{
+    let c = m.claim;
+    let lines = m.lines;
+    Listed {
+        program: c.program,
+        count: m.count,
+        deep: deepest(&lines, 0, 0, m.count),
     }
 }
 
@@ -126,6 +159,9 @@ fn first_walk(e: Entered, budget: u32, going: bool) -> Walk
     }
 }
 
+// The configurations of all shorter schedules stand in rows. A step is made in place, in the row after: nothing is copied
+// but the row that it starts from. Where the codes of a longer schedule are all plain and nothing is entered from it, they
+// are passed at once.
 fn walk(
     t: &mut [u64; 512],
     records: &mut [u16],
@@ -137,17 +173,26 @@ fn walk(
 ) -> Walk
     ensures { λ r. ⌜ lent r (now (t .exit)) (now (records .exit)) (now (room .exit)) ≡ walkFrom (now (t .entry)) (now (records .entry)) (now (room .entry)) m e budget k ⌝ }
 {
-    let mut stack = e.stack;
+    let stack = e.stack;
+    let mut slots = slot_rows(stack);
+    let mut locks = lock_rows(stack);
+    let mut values = value_rows(stack);
+    let mut vars = var_rows(stack);
+    let mut counts = count_rows(t, stack);
     let mut w = first_walk(e, budget, 0 < room_for(room));
     while w.going {
         let p = w.place;
         let level = level_of(p.length);
-        let s = stack[level];
+        let c = counts[level];
         let r = turn(
             t,
             records,
             room,
-            s,
+            &slots[level],
+            &locks[level],
+            &values[level],
+            &vars[level],
+            c,
             w,
             &m.actions,
             &m.lengths,
@@ -156,16 +201,54 @@ fn walk(
         );
         w = r.walk;
         if r.enters {
-            let c = made(
-                s,
+            let l = r.labels;
+            let deep = deepest(t, c.deep, c.count, l.count);
+            let mut after = slots[level];
+            slots_made(
+                &mut after,
                 &m.actions,
                 &m.lengths,
                 &m.machines,
-                &m.locations,
+                c.serial,
                 r.code,
-                r.labels,
+                l.program,
             );
-            stack[level + 1] = c;
+            let quiet = quiet_at(w.left, p.length, k, &after, &m.lengths, l.count);
+            if passes_soon(quiet, deep, k.listed) {
+                w = spent_all(w);
+            } else {
+                let h = happened(&slots[level], c.serial, &m.actions, &m.lengths, r.code, l);
+                write_record(records, p.length as u16, record_of(h));
+                slots[level + 1] = after;
+                locks[level + 1] = locks[level];
+                values[level + 1] = values[level];
+                vars[level + 1] = vars[level];
+                let n = rest_made(
+                    &slots[level],
+                    &mut locks[level + 1],
+                    &mut values[level + 1],
+                    &mut vars[level + 1],
+                    counters_of(c),
+                    &m.actions,
+                    &m.lengths,
+                    &m.locations,
+                    &m.machines,
+                    r.code,
+                    l,
+                );
+                counts[level + 1] = counts_of(n, l.count, deep);
+                w = past_late(
+                    w,
+                    pushed(p, r.code),
+                    l.count,
+                    quiet,
+                    t,
+                    &after,
+                    &values[level + 1],
+                    &vars[level + 1],
+                    &m.actions,
+                );
+            }
         }
     }
     w

@@ -5,30 +5,28 @@ use crate::answer::room_for;
 use crate::answer::write_schedule;
 use crate::place::Place;
 use crate::place::at_code;
-use crate::place::one_less;
 use crate::place::pushed;
 use crate::place::settled;
-use machine::claim::breaks;
+use crate::rows::Counts;
+use machine::claim::broken_by;
 use model::records::Claim;
-use rules::event::Happening;
-use rules::event::record_of;
-use rules::event::write_record;
-use rules::happened::happened;
+use quiet::quiet::Listed;
+use rules::happened::ended_by;
 use rules::work::Labels;
 use rules::work::Worked;
 use rules::work::no_labels;
-use rules::work::work;
+use rules::work::work_lent;
 use state::code::Code;
 use state::code::code_after;
 use state::code::code_from;
 use state::code::codes_below;
-use state::control::Control;
-use state::seek::seek;
+use state::seek::seek_lent;
 use terms::table::cut;
 ghost use mathlib.Core.Path.{_≡_};
 ghost use Prim.Native.Nat.{_-_};
 ghost use Rattle.terms.specs.Base.{held};
-ghost use Rattle.search.specs.Turn.{between, reached, oneMore, closed, past, oneSized, refusedBy, standsAt, foundOn, still, noted, permittedOn, lent, sheets, turnOn};
+ghost use Rattle.search.specs.Rows.{controlFrom};
+ghost use Rattle.search.specs.Turn.{between, reached, oneMore, closed, past, oneSized, refusedBy, standsAt, foundOn, still, entering, lent, sheets, turnOn};
 
 // The place, always one with a code left or the end; budget left; tries refused for size; schedules found; terms in the
 // table as the last try left it; whether the walk goes on, and what it answers where it does not.
@@ -55,27 +53,40 @@ pub struct Task {
     pub claim: Claim,
     pub machines: u8,
     pub bound: u8,
+    pub listed: Listed,
 }
 
-pub fn turn<'a>(
+// A turn at a schedule whose configuration is lent: slots, locks, values and variables, and its counters.
+pub fn turn<'a, 'b>(
     t: &mut [u64; 512],
-    records: &mut [u16],
+    records: &[u16],
     room: &mut [u8],
-    s: Control,
+    slots: &'b [u64; 12],
+    locks: &'b [u32; 32],
+    values: &'b [u16; 32],
+    vars: &'b [u16; 192],
+    c: Counts,
     w: Walk,
     actions: &'a [u64; 512],
     lengths: &'a [u8; 32],
     locations: &'a [u32; 32],
     k: Task,
 ) -> Turned
-    ensures { λ r. ⌜ lent r (now (t .exit)) (now (records .exit)) (now (room .exit)) ≡ turnOn (now (t .entry)) (now (records .entry)) (now (room .entry)) s w (sheets (now (actions .entry)) (now (lengths .entry)) (now (locations .entry))) k ⌝ }
+    ensures { λ r. ⌜ lent r (now (t .exit)) (now (records .entry)) (now (room .exit)) ≡ turnOn (now (t .entry)) (now (records .entry)) (now (room .entry)) (controlFrom (now (slots .entry)) (now (locks .entry)) (now (values .entry)) (now (vars .entry)) c) w (sheets (now (actions .entry)) (now (lengths .entry)) (now (locations .entry))) k ⌝ }
 {
     let p = w.place;
     if Code::NONE <= p.next {
         return still(closed(w, p, 0, Kind::End));
     }
-    let f = s.frame;
-    let code = seek(f, actions, locations, k.machines, p.next);
+    let code = seek_lent(
+        slots,
+        locks,
+        c.steps,
+        actions,
+        locations,
+        k.machines,
+        p.next,
+    );
     let passed = between(p.next, code);
     if w.left < passed {
         let q = at_code(p, reached(p.next, w.left));
@@ -87,15 +98,31 @@ pub fn turn<'a>(
     if w.left == passed {
         return still(closed(w, at_code(p, code), passed, Kind::Stop));
     }
-    cut(t, s.count, w.filled);
+    cut(t, c.count, w.filled);
     let v = past(w, code_after(code), passed + 1);
-    let r = work(t, s, actions, code);
+    let r = work_lent(t, slots, values, vars, c.count, c.nonce, actions, code);
     match r {
         Worked::Refused(number) => still(refused_by(v, number)),
         Worked::Done(l) => {
-            let h = happened(f, actions, lengths, code, l);
-            permitted(records, room, v, pushed(p, code), h, code, l, k)
+            let e = ended_by(slots, actions, lengths, code);
+            if broken_by(records, p.length as u16, e, k.claim) {
+                return still(found(room, v, pushed(p, code), l.count));
+            }
+            entering(v, p.length, code, l, k.bound)
         }
+    }
+}
+
+// A permitted code that breaks nothing: the longer schedule is entered where it is shorter than the bound.
+fn entering(v: Walk, length: u8, code: u16, l: Labels, bound: u8) -> Turned
+    ensures { λ r. ⌜ r ≡ entering v length code l bound ⌝ }
+{
+    let place = v.place;
+    Turned {
+        walk: stands_at(v, v.found, place, l.count, true),
+        enters: length as u16 + 1 < bound as u16,
+        code,
+        labels: l,
     }
 }
 
@@ -143,7 +170,7 @@ fn closed(w: Walk, place: Place, tries: u32, kind: Kind) -> Walk
 }
 
 // The walk gone on to a code of the same schedule, or back from it where none is left.
-fn past(w: Walk, next: u16, tries: u32) -> Walk
+pub fn past(w: Walk, next: u16, tries: u32) -> Walk
     ensures { λ r. ⌜ r ≡ past w next tries ⌝ }
 {
     let p = w.place;
@@ -159,7 +186,7 @@ fn past(w: Walk, next: u16, tries: u32) -> Walk
     }
 }
 
-fn less(m: u32, n: u32) -> u32
+pub fn less(m: u32, n: u32) -> u32
     ensures { λ r. ⌜ r ≡ m - n ⌝ }
 {
     if n < m { m - n } else { 0 }
@@ -198,37 +225,6 @@ fn one_more(n: u32) -> u32
     if n < 4294967295 { n + 1 } else { n }
 }
 
-// A permitted code: v is the walk gone past it, q the schedule with it. A bad schedule is found and not entered; another
-// is entered where it is shorter than the bound. The event of a schedule stands at the place of its last code.
-fn permitted(
-    records: &mut [u16],
-    room: &mut [u8],
-    v: Walk,
-    q: Place,
-    h: Happening,
-    code: u16,
-    l: Labels,
-    k: Task,
-) -> Turned
-    ensures { λ r. ⌜ noted r (now (records .exit)) (now (room .exit)) ≡ permittedOn (now (records .entry)) (now (room .entry)) v q h code l k ⌝ }
-{
-    let at = one_less(q.length) as u16;
-    write_record(records, at, record_of(h));
-    if breaks(records, at, k.claim) {
-        return still(found(room, v, q, l.count));
-    }
-    if k.bound <= q.length {
-        let place = v.place;
-        return still(stands_at(v, v.found, place, l.count, true));
-    }
-    Turned {
-        walk: stands_at(v, v.found, q, l.count, true),
-        enters: true,
-        code,
-        labels: l,
-    }
-}
-
 // The schedule goes to the lent room; the walk goes on while there is room for another.
 fn found(room: &mut [u8], v: Walk, q: Place, filled: u16) -> Walk
     ensures { λ r. ⌜ held r (now (room .exit)) ≡ foundOn (now (room .entry)) v q filled ⌝ }
@@ -239,7 +235,7 @@ fn found(room: &mut [u8], v: Walk, q: Place, filled: u16) -> Walk
     stands_at(v, n, place, filled, (n as usize) < room_for(room))
 }
 
-fn stands_at(v: Walk, found: u32, place: Place, filled: u16, going: bool) -> Walk
+pub fn stands_at(v: Walk, found: u32, place: Place, filled: u16, going: bool) -> Walk
     ensures { λ r. ⌜ r ≡ standsAt v found place filled going ⌝ }
 {
     Walk {

@@ -1,6 +1,6 @@
--- What seek gives is the first code that 1 to 7 let through, and a row of hand-overs from a slot that does not send is
+-- What seek gives is the first code that 1 to 7 let through, and rows of hand-overs from slots that do not send are
 -- refused throughout.
-use Prim.Native.Nat.{ℕ, zero, suc, _+_, _-_, _/_, _%_, _<_, _≤_}
+use Prim.Native.Nat.{ℕ, zero, suc, _+_, _-_, _*_, _/_, _%_, _<_, _≤_}
 use mathlib.Core.Bool.{Bool, true, false, not}
 use mathlib.Core.List.{List, [], _∷_}
 use mathlib.Core.Path.{_≡_, refl, sym, ap, subst, _∙_}
@@ -8,13 +8,13 @@ use native.Mathlib.Numerals.{sub-one}
 use native.Mathlib.Nat.{sub-add-eq, sub-eq-zero-of-le}
 use native.Mathlib.Omega.{arith}
 use lib.Dec.{ltb, leb, eqb}
-use borrow.Author.Tests.{ltb-true, ltb-false, eqb-true, eqb-false, lt-ltb, le-ltb, eq-eqb, ne-eqb}
+use borrow.Author.Tests.{ltb-true, ltb-false, leb-false, eqb-true, eqb-false, lt-ltb, le-ltb, eq-eqb, ne-eqb}
 use Rattle.terms.specs.Base.{pick, also}
 use Rattle.model.specs.Fields.{either}
 use Rattle.state.specs.Code.{wayOf}
 use Rattle.state.specs.Reason.{reason, firstOf}
 use Rattle.state.specs.Early.{Sight, threadIn, actionOf, refusalOf, earlyOf}
-use Rattle.state.specs.Seek.{First, seekBy, seekIn, seekFrom, sends, silentFrom, refusedBy, refusedFrom}
+use Rattle.state.specs.Seek.{First, seekBy, seekIn, seekFrom, sends, senderIn, nextSender, silentFrom, refusedBy, refusedFrom}
 use Rattle.state.specs.declared.code.Way.the-variants.{Hand}
 
 -- One number
@@ -66,35 +66,93 @@ hand-way : (k : ℕ) → 16 ≤ k → k < 160 → wayOf k ≡ Hand ((k - 16) / 1
 unfolding wayOf
 hand-way k p q = rw (le-ltb k 12 (omega arith), le-ltb k 16 p, lt-ltb k 160 q)
 
-row-refused : (g : Sight) (c k : ℕ) → 16 ≤ c → c ≤ 159 → sends (g .slots) (g .actions) ((c - 16) / 12) ≡ false
-    → c ≤ k → k < c + (12 - (c - 16) % 12) → earlyOf g k ≡ 0 → ⊥
-unfolding earlyOf
-row-refused g c k lo hi s p q z =
-    let e : (k - 16) / 12 ≡ (c - 16) / 12 = omega arith in
-    let w : wayOf k ≡ Hand ((c - 16) / 12) ((k - 16) % 12) = hand-way k (omega arith) (omega arith) ∙ ap (λ (i : ℕ). Hand i ((k - 16) % 12)) e in
-    hand-refused g ((c - 16) / 12) ((k - 16) % 12) s (rw w at z)
+-- The slots that are passed
 
-silent-by : (a b d : Bool) (g : Sight) (c k : ℕ) → ltb c 16 ≡ a → ltb 159 c ≡ b → sends (g .slots) (g .actions) ((c - 16) / 12) ≡ d
-    → c ≤ k → k < c + pick a 0 (pick b 0 (pick d 0 (12 - (c - 16) % 12))) → earlyOf g k ≡ 0 → ⊥
+module _ (slots actions : List ℕ) where
+  sender-step : (n i : ℕ) → 0 < n → senderIn n slots actions i ≡ pick (sends slots actions i) i (senderIn (n - 1) slots actions (i + 1))
+  unfolding senderIn
+  sender-step zero i h = absurd (omega arith)
+  sender-step (suc n) i h = rw sub-one
+
+  -- one turn of the loop, and its end
+  pub sender-more : (i : ℕ) → i < 12 → nextSender slots actions i ≡ pick (sends slots actions i) i (nextSender slots actions (i + 1))
+  unfolding nextSender
+  sender-more i h = rw (sub-add-eq, sender-step (12 - i) i (omega arith))
+
+  pub sender-end : (i : ℕ) → 12 ≤ i → nextSender slots actions i ≡ 12
+  unfolding nextSender senderIn
+  sender-end i h = rw (sub-eq-zero-of-le h)
+
+  passed-by : (a b : Bool) (n i k : ℕ) → sends slots actions i ≡ a → eqb k i ≡ b → i ≤ k
+      → (i + 1 ≤ k → k < senderIn n slots actions (i + 1) → sends slots actions k ≡ false)
+      → k < pick a i (senderIn n slots actions (i + 1)) → sends slots actions k ≡ false
+  passed-by true b n i k x y p f q = absurd (omega arith)
+  passed-by false true n i k x y p f q = subst (λ (j : ℕ). sends slots actions j ≡ false) (sym (eqb-true k i y)) x
+  passed-by false false n i k x y p f q = let d : k ≡ i → ⊥ = eqb-false k i y in f (omega arith) q
+
+  passed-in : (n i k : ℕ) → n + i ≡ 12 → i ≤ k → k < senderIn n slots actions i → sends slots actions k ≡ false
+  unfolding senderIn
+  passed-in zero i k h p q = absurd (omega arith)
+  passed-in (suc n) i k h p q =
+      passed-by (sends slots actions i) (eqb k i) n i k refl refl p (λ x y. passed-in n (i + 1) k (omega arith) x y) q
+
+  -- none of them sends
+  passed-silent : (i k : ℕ) → i ≤ 12 → i ≤ k → k < nextSender slots actions i → sends slots actions k ≡ false
+  unfolding nextSender
+  passed-silent i k h p q = passed-in (12 - i) i k (omega arith) p q
+
+  small-by : (a : Bool) (i r : ℕ) → i ≤ 12 → r ≤ 12 → pick a i r ≤ 12
+  small-by true i r h f = h
+  small-by false i r h f = f
+
+  small-in : (n i : ℕ) → n + i ≡ 12 → senderIn n slots actions i ≤ 12
+  unfolding senderIn
+  small-in zero i h = omega arith
+  small-in (suc n) i h = small-by (sends slots actions i) i (senderIn n slots actions (i + 1)) (omega arith) (small-in n (i + 1) (omega arith))
+
+  sender-small : (i : ℕ) → i ≤ 12 → nextSender slots actions i ≤ 12
+  unfolding nextSender
+  sender-small i h = small-in (12 - i) i (omega arith)
+
+-- The hand-overs that are passed
+
+row-refused : (g : Sight) (c k : ℕ) → 16 ≤ c → c ≤ 159 → c ≤ k
+    → k < 16 + 12 * nextSender (g .slots) (g .actions) ((c - 16) / 12) → earlyOf g k ≡ 0 → ⊥
+unfolding earlyOf
+row-refused g c k lo hi p q z =
+    let s : ℕ = (c - 16) / 12 in
+    let small : nextSender (g .slots) (g .actions) s ≤ 12 = sender-small (g .slots) (g .actions) s (omega arith) in
+    let w : wayOf k ≡ Hand ((k - 16) / 12) ((k - 16) % 12) = hand-way k (omega arith) (omega arith) in
+    let n : sends (g .slots) (g .actions) ((k - 16) / 12) ≡ false =
+    passed-silent (g .slots) (g .actions) s ((k - 16) / 12) (omega arith) (omega arith) (omega arith) in
+    hand-refused g ((k - 16) / 12) ((k - 16) % 12) n (rw w at z)
+
+silent-by : (a b d : Bool) (g : Sight) (c k : ℕ) → ltb c 16 ≡ a → ltb 159 c ≡ b → leb (nextSender (g .slots) (g .actions) ((c - 16) / 12)) ((c - 16) / 12) ≡ d
+    → c ≤ k → k < c + pick a 0 (pick b 0 (pick d 0 (16 + 12 * nextSender (g .slots) (g .actions) ((c - 16) / 12) - c))) → earlyOf g k ≡ 0 → ⊥
 silent-by true b d g c k x y s p q z = omega (arith, q)
 silent-by false true d g c k x y s p q z = omega (arith, q)
 silent-by false false true g c k x y s p q z = omega (arith, q)
-silent-by false false false g c k x y s p q z = row-refused g c k (ltb-false c 16 x) (ltb-false 159 c y) s p q z
+silent-by false false false g c k x y s p q z =
+    row-refused g c k (ltb-false c 16 x) (ltb-false 159 c y) p
+    (omega (arith, q, ltb-false c 16 x, leb-false (nextSender (g .slots) (g .actions) ((c - 16) / 12)) ((c - 16) / 12) s)) z
 
--- every hand-over of such a row is refused
+-- every hand-over of such rows is refused
 pub silent-refused : (g : Sight) (c k : ℕ) → c ≤ k → k < c + silentFrom (g .slots) (g .actions) c → earlyOf g k ≡ 0 → ⊥
 unfolding silentFrom
-silent-refused g c k p q z = silent-by (ltb c 16) (ltb 159 c) (sends (g .slots) (g .actions) ((c - 16) / 12)) g c k refl refl refl p q z
+silent-refused g c k p q z =
+    silent-by (ltb c 16) (ltb 159 c) (leb (nextSender (g .slots) (g .actions) ((c - 16) / 12)) ((c - 16) / 12)) g c k refl refl refl p q z
 
-silent-in : (a b d : Bool) (c : ℕ) → c < 164 → ltb c 16 ≡ a → ltb 159 c ≡ b → c + pick a 0 (pick b 0 (pick d 0 (12 - (c - 16) % 12))) ≤ 164
-silent-in true b d c h x y = omega arith
-silent-in false true d c h x y = omega arith
-silent-in false false true c h x y = omega arith
-silent-in false false false c h x y = omega (arith, ltb-false c 16 x, ltb-false 159 c y)
+silent-in : (a b d : Bool) (c i : ℕ) → c < 164 → i ≤ 12 → c + pick a 0 (pick b 0 (pick d 0 (16 + 12 * i - c))) ≤ 164
+silent-in true b d c i h s = omega arith
+silent-in false true d c i h s = omega arith
+silent-in false false true c i h s = omega arith
+silent-in false false false c i h s = omega arith
 
 silent-within : (slots actions : List ℕ) (c : ℕ) → c < 164 → c + silentFrom slots actions c ≤ 164
 unfolding silentFrom
-silent-within slots actions c h = silent-in (ltb c 16) (ltb 159 c) (sends slots actions ((c - 16) / 12)) c h refl refl
+silent-within slots actions c h =
+    silent-in (ltb c 16) (ltb 159 c) (leb (nextSender slots actions ((c - 16) / 12)) ((c - 16) / 12)) c (nextSender slots actions ((c - 16) / 12)) h
+    (sender-small slots actions ((c - 16) / 12) (omega arith))
 
 -- What is refused at sight
 

@@ -39,10 +39,14 @@ lockReset m protected serial lock location =
 unfoldable pub locksReset : List ℕ → List ℕ → ℕ → Bool → ℕ → List ℕ
 locksReset locks locations m protected serial = each2 (lockReset m protected serial) locks locations
 
--- the frame after a reset of machine m; the free slot is looked for after the endings
+-- "A boot thread .. runs the boot program in the lowest free slot"; the free slot is looked for after the endings
+abbrev pub slotsBooted : List ℕ → Machine → ℕ → ℕ → List ℕ
+slotsBooted slots machine m serial = withSlot (slotsReset slots m) (lowestFree (slotsReset slots m)) (bootThread machine m serial)
+
+-- the frame after a reset of machine m
 unfoldable pub frameReset : Frame → Machine → List ℕ → ℕ → Frame
 frameReset f machine locations m = record {
-  slots = withSlot (slotsReset (f .slots) m) (lowestFree (slotsReset (f .slots) m)) (bootThread machine m (f .serial));
+  slots = slotsBooted (f .slots) machine m (f .serial);
   locks = locksReset (f .locks) locations m (machine .protected) (f .serial);
   steps = oneMore (f .steps);
   serial = oneMore (f .serial);

@@ -1,9 +1,9 @@
 -- The next code that refusals 1 to 7 let through, and how many numbers may be passed at sight.
-use Prim.Native.Nat.{ℕ, zero, suc, _+_, _-_, _/_, _%_, _<_, _≤_}
+use Prim.Native.Nat.{ℕ, zero, suc, _+_, _-_, _*_, _/_, _<_, _≤_}
 use mathlib.Core.Bool.{Bool, true, false}
 use mathlib.Core.Path.{_≡_}
 use mathlib.Core.List.{List}
-use lib.Dec.{eqb, ltb}
+use lib.Dec.{eqb, ltb, leb}
 use Rattle.terms.specs.Base.{pick, also}
 use Rattle.state.specs.Slot.{slotAt}
 use Rattle.state.specs.Early.{Sight, sight, nextAction, earlyOf}
@@ -41,17 +41,33 @@ sendsBy s actions = also (s .live) (eqb (nextAction actions s .op) 5)
 unfoldable pub sends : List ℕ → List ℕ → ℕ → Bool
 sends slots actions i = sendsBy (slotAt slots i) actions
 
--- the rest of a row of hand-overs whose sender is empty or does not send; 0 where there is no such row
+-- n slots from i on are asked
+unfoldable pub senderIn : ℕ → List ℕ → List ℕ → ℕ → ℕ
+senderIn zero slots actions i = 12
+senderIn (suc n) slots actions i = pick (sends slots actions i) i (senderIn n slots actions (i + 1))
+
+-- the first slot from i on that sends, 12 where none does
+unfoldable pub nextSender : List ℕ → List ℕ → ℕ → ℕ
+nextSender slots actions i = senderIn (12 - i) slots actions i
+
+pub record NextSender (slots actions : List ℕ) (i r : ℕ) : Type 0 where
+  pub is : r ≡ nextSender slots actions i
+  pub small : r ≤ 12
+
+-- up to the hand-overs from slot i, 0 where that is the row's own sender
+abbrev pub silentBy : ℕ → ℕ → ℕ → ℕ
+silentBy i sender c = pick (leb i sender) 0 (16 + 12 * i - c)
+
+-- the rest of a row of hand-overs, and the rows after it, whose senders are empty or do not send; 0 where there is no such row
 unfoldable pub silentFrom : List ℕ → List ℕ → ℕ → ℕ
 silentFrom slots actions c =
     pick (ltb c 16) 0
     (pick (ltb 159 c) 0
-    (pick (sends slots actions ((c - 16) / 12)) 0
-    (12 - (c - 16) % 12)))
+    (silentBy (nextSender slots actions ((c - 16) / 12)) ((c - 16) / 12) c))
 
 pub record Silent (slots actions : List ℕ) (c r : ℕ) : Type 0 where
   pub is : r ≡ silentFrom slots actions c
-  pub small : r ≤ 12
+  pub small : r ≤ 144
 
 -- how many numbers from c on are refused at sight, 0 where c is let through
 abbrev pub refusedBy : ℕ → ℕ → ℕ
@@ -62,4 +78,4 @@ refusedFrom g c = refusedBy (silentFrom (g .slots) (g .actions) c) (earlyOf g c)
 
 pub record Refused (g : Sight) (c r : ℕ) : Type 0 where
   pub is : r ≡ refusedFrom g c
-  pub small : r ≤ 12
+  pub small : r ≤ 144

@@ -1,39 +1,16 @@
 // Late launch: the thread ends, and in its slot a new one runs the machine's launch program. The machine's dynamic
 // registers become dinit and are locked by the new thread, whoever held them. All other locks stay.
-use crate::control::Frame;
-use crate::control::one_more;
 use crate::lock::held_by;
-use crate::moves::with_slot;
+use crate::lock::known_locks;
 use crate::slot::Slot;
 use crate::slot::pack_slot;
 use model::records::location_in;
 use model::records::machine_at;
 ghost use mathlib.Core.Path.{_≡_};
-ghost use Rattle.state.specs.Launch.{isDynamic, threadLaunched, lockLaunched, locksLaunched, frameLaunched};
-
-pub fn frame_launched<'a>(
-    f: Frame,
-    machines: &'a [u32; 4],
-    locations: &'a [u32; 32],
-    i: u8,
-    q: Slot,
-) -> Frame
-    ensures { λ r. ⌜ r ≡ frameLaunched f (now (machines .entry)) (now (locations .entry)) i q ⌝ }
-{
-    let n = thread_launched(machines, q, f.serial);
-    let slots = f.slots;
-    let locks = f.locks;
-    Frame {
-        slots: with_slot(slots, i, n),
-        locks: locks_launched(locks, locations, q.machine, f.serial),
-        steps: one_more(f.steps),
-        serial: one_more(f.serial),
-        nonce: f.nonce,
-    }
-}
+ghost use Rattle.state.specs.Launch.{isDynamic, threadLaunched, lockLaunched, locksLaunched};
 
 // The new thread keeps the agent and the machine of the one it replaces.
-fn thread_launched(machines: &[u32; 4], q: Slot, serial: u16) -> u64
+pub fn thread_launched(machines: &[u32; 4], q: Slot, serial: u16) -> u64
     ensures { λ r. ⌜ r ≡ threadLaunched (now (machines .entry)) q serial ⌝ }
 {
     let m = machine_at(machines, q.machine);
@@ -47,16 +24,15 @@ fn thread_launched(machines: &[u32; 4], q: Slot, serial: u16) -> u64
     })
 }
 
-fn locks_launched(locks: [u32; 32], locations: &[u32; 32], m: u8, serial: u16) -> [u32; 32]
-    ensures { λ r. ⌜ r ≡ locksLaunched locks (now (locations .entry)) m serial ⌝ }
+pub fn locks_launched(locks: &mut [u32; 32], locations: &[u32; 32], m: u8, serial: u16)
+    ensures { λ _. ⌜ now (locks .exit) ≡ locksLaunched (now (locks .entry)) (now (locations .entry)) m serial ⌝ }
 {
-    let mut out = locks;
+    known_locks(locks);
     let mut i = 0;
     while i < 32 {
-        out[i] = lock_launched(out[i], locations[i], m, serial);
+        locks[i] = lock_launched(locks[i], locations[i], m, serial);
         i += 1;
     }
-    out
 }
 
 fn lock_launched(lock: u32, location: u32, m: u8, serial: u16) -> u32

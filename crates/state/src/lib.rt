@@ -7,13 +7,12 @@
 //   early           refusals 1 to 7, which only read
 //   seek            the next code that those let through
 //   moves           what an action does to its thread and to locks
-//   launch, reset, hand   what late launch, reset and hand-over do to threads and locks
+//   launch, reset   what late launch and reset do to threads and locks
 //   ended           the programs of threads that ended
 pub mod code;
 pub mod control;
 pub mod early;
 pub mod ended;
-pub mod hand;
 pub mod launch;
 pub mod lock;
 pub mod moves;

@@ -2,6 +2,7 @@
 // a real holder; the holder is named by its serial and not by its slot, and may have ended.
 use terms::line::bit;
 ghost use mathlib.Core.Path.{_≡_};
+ghost use lib.ListN.{length};
 ghost use Rattle.state.specs.Lock.{noHolder, packLock, lockIn, lockAt, heldBy, barsTo, isHeldBy};
 
 pub struct Lock {
@@ -36,6 +37,13 @@ pub fn lock_in(n: u32) -> Lock
     let held = n / 65536 % 2 == 1;
     let serial = (n % 65536) as u16;
     Lock { held, serial }
+}
+
+// What the type says of the locks, said to the prover: they are thirty-two. It does nothing.
+pub fn known_locks(locks: &[u32; 32])
+    ensures { λ _. ⌜ length (now (locks .entry)) ≡ 32 ⌝ }
+{
+    let s: &[u32] = locks;
 }
 
 // The lock at a location, a free one where there is none.

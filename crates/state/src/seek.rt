@@ -7,7 +7,7 @@ use crate::early::next_action;
 use crate::slot::slot_at;
 ghost use mathlib.Core.Path.{_≡_};
 ghost use Rattle.state.specs.Early.{sight};
-ghost use Rattle.state.specs.Seek.{seekFrom, sightOf, sends, Silent, Refused};
+ghost use Rattle.state.specs.Seek.{seekFrom, sightOf, sends, NextSender, Silent, Refused};
 
 pub fn seek<'a>(
     f: Frame,
@@ -30,7 +30,7 @@ pub fn seek<'a>(
     )
 }
 
-fn seek_lent<'a, 'b>(
+pub fn seek_lent<'a, 'b>(
     slots: &'a [u64; 12],
     locks: &'a [u32; 32],
     steps: u16,
@@ -72,7 +72,7 @@ fn refused_from<'a, 'b>(
     if n == 0 { 0 } else { 1 }
 }
 
-// The rest of a row of hand-overs whose sender is empty or does not send; 0 where there is no such row.
+// The rest of the row of hand-overs, and the rows after it, whose senders are empty or do not send; 0 where this row's does.
 fn silent_from(slots: &[u64; 12], actions: &[u64; 512], code: u16) -> u16
     ensures { λ r. ⌜ Silent (now (slots .entry)) (now (actions .entry)) code r ⌝ }
 {
@@ -83,10 +83,25 @@ fn silent_from(slots: &[u64; 12], actions: &[u64; 512], code: u16) -> u16
         return 0;
     }
     let sender = ((code - 16) / 12) as u8;
-    if sends(slots, actions, sender) {
+    let i = next_sender(slots, actions, sender);
+    if i <= sender {
         return 0;
     }
-    12 - (code - 16) % 12
+    16 + 12 * i as u16 - code
+}
+
+// The first slot from this one on that sends, 12 where none does.
+fn next_sender(slots: &[u64; 12], actions: &[u64; 512], from: u8) -> u8
+    ensures { λ r. ⌜ NextSender (now (slots .entry)) (now (actions .entry)) from r ⌝ }
+{
+    let mut i = from;
+    while i < 12 {
+        if sends(slots, actions, i) {
+            return i;
+        }
+        i += 1;
+    }
+    12
 }
 
 fn sends(slots: &[u64; 12], actions: &[u64; 512], i: u8) -> bool

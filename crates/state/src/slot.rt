@@ -2,6 +2,7 @@
 // machine * 2^16 + program * 2^8 + position. A free slot is all zero; the mark tells a live thread of all zeros from it.
 use terms::line::bit;
 ghost use mathlib.Core.Path.{_≡_};
+ghost use lib.ListN.{length};
 ghost use Rattle.state.specs.Slot.{noThread, packSlot, slotIn, slotAt, Lowest};
 
 pub struct Slot {
@@ -80,10 +81,18 @@ pub fn slot_at(slots: &[u64; 12], i: u8) -> Slot
     }
 }
 
-// The lowest free slot, 12 where none is.
-pub fn lowest_free(slots: [u64; 12]) -> u8
-    ensures { λ r. ⌜ Lowest slots r ⌝ }
+// What the type says of the slots, said to the prover: they are twelve. It does nothing.
+pub fn known_slots(slots: &[u64; 12])
+    ensures { λ _. ⌜ length (now (slots .entry)) ≡ 12 ⌝ }
 {
+    let s: &[u64] = slots;
+}
+
+// The lowest free slot, 12 where none is.
+pub fn lowest_free(slots: &[u64; 12]) -> u8
+    ensures { λ r. ⌜ Lowest (now (slots .entry)) r ⌝ }
+{
+    known_slots(slots);
     let mut i = 0;
     while i < 12 {
         let s = slot_in(slots[i]);

@@ -1,18 +1,18 @@
 -- T2. Adding a term to a sound table: refused as too deep, found, entered as one new line, or refused for want of room.
 -- Each is tied to the trees: the depth, an old label that denotes the tree, and no label that does.
-use Prim.Native.Nat.{ℕ, zero, suc, _+_, _<_, _≤_}
+use Prim.Native.Nat.{ℕ, zero, suc, _+_, _-_, _<_, _≤_}
 use mathlib.Core.Path.{_≡_, refl, sym, ap, ap₂, _∙_, subst}
 use mathlib.Core.Bool.{Bool, true, false}
 use mathlib.Core.List.{List, [], _∷_, _++_}
 use native.Mathlib.Omega.{arith}
 use native.Mathlib.Numerals.{add-one}
-use lib.ListN.{length, getD, take, set, length-set}
-use lib.Seq.{take-set-le, getD-take, getD-set-same, getD-set-other, getD-at, length-take-le}
+use lib.ListN.{length, getD, take, drop, set, length-set, length-drop}
+use lib.Seq.{take-set-le, getD-take, getD-drop, getD-set-same, getD-set-other, getD-at, length-take-le}
 use lib.Dec.{ltb, eqb}
 use borrow.Author.Tests.{ltb-true, ltb-false, eqb-true, eqb-false}
 use Rattle.terms.proofs.Laws.{free-none, free-some}
 use Rattle.terms.specs.Base.{pick, held}
-use Rattle.terms.specs.Term.{shapeOf, inLimits, partsBy, partsBelow}
+use Rattle.terms.specs.Term.{shapeOf, inLimits, partsBy, partsBelow, afterBy, afterParts}
 use Rattle.terms.specs.Line.{packed, termIn, lineAt, termAt}
 use Rattle.terms.specs.Grade.{aboveLine, aboveBoth, gradeBy, gradeOf}
 use Rattle.terms.specs.Table.{freeOf, findIn, findLine, findTerm, added, addBy, addTo}
@@ -67,20 +67,27 @@ record Found-at (l : List ℕ) (c n i : ℕ) : Type 0 where
   below : i < c
   is : lineAt l i ≡ n
 
-line-hit : (l : List ℕ) (c n i : ℕ) → c ≤ length l → findLine l c n ≡ At i → Found-at l c n i
+line-hit : (l : List ℕ) (o c n i : ℕ) → c ≤ length l → findLine l o c n ≡ At i → Found-at l c n i
 unfolding findLine
-line-hit l c n i h e =
-    let r = find-hit 0 (take c l) n i e in
+line-hit l o c n i h e =
+    let r = find-hit o (drop o (take c l)) n i e in
     let m = length-take-le c l h in
-    let q : i ≡ r .place = omega (arith, r .label) in
-    let b : r .place < c = omega (arith, r .below, m) in
-    record { below = omega arith; is = ap (λ (k : ℕ). getD l k 0) q ∙ sym (getD-take c l (r .place) 0 b) ∙ r .is }
+    let d = length-drop o (take c l) in
+    let q : i ≡ o + r .place = r .label in
+    let b : o + r .place < c = omega (arith, r .below, m, d) in
+    record {
+      below = omega arith;
+      is = ap (λ (k : ℕ). getD l k 0) q ∙ sym (getD-take c l (o + r .place) 0 b) ∙ sym (getD-drop o (take c l) (r .place) 0) ∙ r .is;
+    }
 
-line-miss : (l : List ℕ) (c n : ℕ) → c ≤ length l → findLine l c n ≡ Nothing → (j : ℕ) → j < c → lineAt l j ≡ n → ⊥
+line-miss : (l : List ℕ) (o c n : ℕ) → c ≤ length l → findLine l o c n ≡ Nothing → (j : ℕ) → o ≤ j → j < c → lineAt l j ≡ n → ⊥
 unfolding findLine
-line-miss l c n h e j k q =
+line-miss l o c n h e j s k q =
     let m = length-take-le c l h in
-    find-miss 0 (take c l) n e j (omega (arith, m, k)) (getD-take c l j 0 k ∙ q)
+    let d = length-drop o (take c l) in
+    let z : o + (j - o) ≡ j = omega arith in
+    let p : getD (drop o (take c l)) (j - o) 0 ≡ getD (take c l) j 0 = getD-drop o (take c l) (j - o) 0 ∙ ap (λ (i : ℕ). getD (take c l) i 0) z in
+    find-miss o (drop o (take c l)) n e (j - o) (omega (arith, m, d, k)) (p ∙ getD-take c l j 0 k ∙ q)
 
 -- The grade of a term hangs on the lines of its parts alone
 
@@ -248,6 +255,32 @@ line-den {l} {c} {i} S p x F r =
     let t : termAt l i ≡ x = ap termIn (r .is) ∙ term-packed x (gradeOf l x) (fit-small F) in
     record { below = r .below; is = tree-at S p i (r .below) ∙ ap (means l c) t }
 
+after-by : (s : Shape) (a b i : ℕ) → partsBy s a b i ≡ true → afterBy s a b ≤ i
+after-by Bare a b i p = omega arith
+after-by Number a b i p = omega arith
+after-by Variable a b i p = omega arith
+after-by Sealed a b i p = omega (arith, ltb-true a i p)
+after-by Hashed a b i p = omega (arith, ltb-true a i p)
+after-by Applied a b i p = omega (arith, ltb-true b i p)
+after-by Joined a b i p = later-by (ltb a b) (ltb-true a i (also-left (ltb a i) (ltb b i) p)) (ltb-true b i (also-right (ltb a i) (ltb b i) p))
+  where
+    later-by : (t : Bool) → a < i → b < i → pick t b a ≤ i
+    later-by true h k = omega arith
+    later-by false h k = omega arith
+after-by Unknown a b i p = omega arith
+
+-- a term stands at no label before its parts
+parts-after : (x : Term) (i : ℕ) → partsBelow x i ≡ true → afterParts x ≤ i
+unfolding partsBelow afterParts
+parts-after x i p = after-by (shapeOf (x .kind)) (x .a) (x .b) i p
+
+-- so a line that is not there behind its parts is not there at all
+behind-parts : {l : List ℕ} {c : ℕ} → Sound l c → (x : Term) → Fit x c → ((i : ℕ) → afterParts x ≤ i → i < c → lineAt l i ≡ newLine l x → ⊥)
+    → (i : ℕ) → i < c → lineAt l i ≡ newLine l x → ⊥
+behind-parts {l} {c} S x F none i h e =
+    let t : termAt l i ≡ x = ap termIn e ∙ term-packed x (gradeOf l x) (fit-small F) in
+    none i (parts-after x i (subst (λ (y : Term). partsBelow y i ≡ true) t (S .parts i h))) h e
+
 adds-room : {l : List ℕ} {c : ℕ} → Sound l c → length l ≡ 512 → (x : Term) → Fit x c → gradeOf l x .depth ≤ 16 → ((i : ℕ) → i < c → lineAt l i ≡ newLine l x → ⊥)
     → (t : Bool) → eqb (freeOf c) 0 ≡ t → Adds l c x (pick t (held (added O.Full c) l) (held (added (O.New c) (c + 1)) (pushed l c x)))
 adds-room {l} {c} S p x F low none false e =
@@ -258,16 +291,16 @@ adds-room {l} {c} S p x F low none true e =
     full (omega (arith, fit-depth S p x (F .parts))) (not-member S p x F none) (omega (arith, free-none c e, S .room))
 
 adds-found : {l : List ℕ} {c : ℕ} → Sound l c → length l ≡ 512 → (x : Term) → Fit x c → gradeOf l x .depth ≤ 16
-    → (f : Found) → findLine l c (newLine l x) ≡ f → Adds l c x (addBy f l c (newLine l x))
+    → (f : Found) → findLine l (afterParts x) c (newLine l x) ≡ f → Adds l c x (addBy f l c (newLine l x))
 adds-found {l} {c} S p x F low (At i) e =
-    listed (omega (arith, fit-depth S p x (F .parts))) (line-den S p x F (line-hit l c (newLine l x) i (omega (arith, S .room, p)) e))
+    listed (omega (arith, fit-depth S p x (F .parts))) (line-den S p x F (line-hit l (afterParts x) c (newLine l x) i (omega (arith, S .room, p)) e))
 adds-found {l} {c} S p x F low Nothing e =
-    adds-room S p x F low (line-miss l c (newLine l x) (omega (arith, S .room, p)) e) (eqb (freeOf c) 0) refl
+    adds-room S p x F low (behind-parts S x F (line-miss l (afterParts x) c (newLine l x) (omega (arith, S .room, p)) e)) (eqb (freeOf c) 0) refl
 
 adds-by : {l : List ℕ} {c : ℕ} → Sound l c → length l ≡ 512 → (x : Term) → Fit x c → (t : Bool) → ltb 16 (gradeOf l x .depth) ≡ t
-    → Adds l c x (pick t (held (added O.Deep c) l) (addBy (findLine l c (newLine l x)) l c (newLine l x)))
+    → Adds l c x (pick t (held (added O.Deep c) l) (addBy (findLine l (afterParts x) c (newLine l x)) l c (newLine l x)))
 adds-by {l} S p x F true e = deep (omega (arith, ltb-true 16 (gradeOf l x .depth) e, fit-depth S p x (F .parts)))
-adds-by {l} {c} S p x F false e = adds-found S p x F (ltb-false 16 (gradeOf l x .depth) e) (findLine l c (newLine l x)) refl
+adds-by {l} {c} S p x F false e = adds-found S p x F (ltb-false 16 (gradeOf l x .depth) e) (findLine l (afterParts x) c (newLine l x)) refl
 
 -- T2. What `addTo` answers, for a term that may be the next line
 pub adds : {l : List ℕ} {c : ℕ} → Sound l c → length l ≡ 512 → (x : Term) → Fit x c → Adds l c x (addTo l c x)
@@ -285,15 +318,15 @@ deep-not-member {l} {c} S p z h = by (member z (trees l c)) refl
         absurd (omega arith)
     by false e = refl
 
-finds-found : {l : List ℕ} {c : ℕ} → Sound l c → length l ≡ 512 → (x : Term) → Fit x c → (f : Found) → findLine l c (newLine l x) ≡ f → Finds l c x f
-finds-found {l} {c} S p x F (At i) e = at (line-den S p x F (line-hit l c (newLine l x) i (omega (arith, S .room, p)) e))
-finds-found {l} {c} S p x F Nothing e = nothing (not-member S p x F (line-miss l c (newLine l x) (omega (arith, S .room, p)) e))
+finds-found : {l : List ℕ} {c : ℕ} → Sound l c → length l ≡ 512 → (x : Term) → Fit x c → (f : Found) → findLine l (afterParts x) c (newLine l x) ≡ f → Finds l c x f
+finds-found {l} {c} S p x F (At i) e = at (line-den S p x F (line-hit l (afterParts x) c (newLine l x) i (omega (arith, S .room, p)) e))
+finds-found {l} {c} S p x F Nothing e = nothing (not-member S p x F (behind-parts S x F (line-miss l (afterParts x) c (newLine l x) (omega (arith, S .room, p)) e)))
 
 finds-by : {l : List ℕ} {c : ℕ} → Sound l c → length l ≡ 512 → (x : Term) → Fit x c → (t : Bool) → ltb 16 (gradeOf l x .depth) ≡ t
-    → Finds l c x (pick t Nothing (findLine l c (newLine l x)))
+    → Finds l c x (pick t Nothing (findLine l (afterParts x) c (newLine l x)))
 finds-by {l} {c} S p x F true e =
     nothing (deep-not-member S p (means l c x) (omega (arith, ltb-true 16 (gradeOf l x .depth) e, fit-depth S p x (F .parts))))
-finds-by {l} {c} S p x F false e = finds-found S p x F (findLine l c (newLine l x)) refl
+finds-by {l} {c} S p x F false e = finds-found S p x F (findLine l (afterParts x) c (newLine l x)) refl
 
 -- What `findTerm` answers, for a term that may be the next line
 pub finds : {l : List ℕ} {c : ℕ} → Sound l c → length l ≡ 512 → (x : Term) → Fit x c → Finds l c x (findTerm l c x)

@@ -11,10 +11,11 @@ use lib.Seq.{getD-set-other, getD-take, ext-getD}
 use borrow.Author.Tests.{ltb-true, ltb-false}
 use Rattle.terms.proofs.Laws.{free-some}
 use Rattle.terms.specs.Base.{pick, Held, held}
+use Rattle.terms.specs.Term.{afterParts}
 use Rattle.terms.specs.Line.{lineAt, packed}
 use Rattle.terms.specs.Grade.{gradeOf}
 use Rattle.terms.specs.Table.{usedOf, freeOf, wipe, cutTo, findLine, added, addBy, addTo}
-use Rattle.terms.specs.Subst.{planAt, fitsWithin, enteredIn, firstBy, withFirst, secondBy, withSecond, bothBy, withBoth, thenSecond, walkBy, substIn, operands, takenBy, secondOperand, afterFirst, takeBy, takeOperands}
+use Rattle.terms.specs.Subst.{planAt, enteredIn, firstBy, withFirst, secondBy, withSecond, bothBy, withBoth, thenSecond, walkBy, substIn, takenBy, secondOperand, afterFirst, takeBoth, settledBy, takeOperands}
 use Rattle.terms.specs.declared.term.Term.{Term}
 use Rattle.terms.specs.declared.table.Found.{Found}
 use Rattle.terms.specs.declared.table.Found.the-variants.{At, Nothing}
@@ -24,7 +25,7 @@ use Rattle.terms.specs.declared.subst.Plan.the-variants.{Keep, First, Se
 use Rattle.terms.specs.declared.subst.Got.{Got}
 use Rattle.terms.specs.declared.subst.Got.the-variants.{Label, Deep, Full}
 use Rattle.terms.specs.declared.subst.Subbed.{Subbed}
-use Rattle.terms.specs.declared.subst.Operands.{Operands}
+use Rattle.terms.specs.declared.subst.Taken.{Taken}
 use Rattle.terms.specs.declared.subst.Taken.the-variants as T
 
 -- m, of d lines, is l, of c lines, with some more
@@ -146,7 +147,7 @@ deep-grows false f l c n = found-grows f l c n
 -- adding a term, whatever comes of it
 pub add-grows : (l : List ℕ) (c : ℕ) (x : Term) → Grown l c (addTo l c x .table) (addTo l c x .out .count)
 unfolding addTo
-add-grows l c x = deep-grows (ltb 16 (gradeOf l x .depth)) (findLine l c (packed x (gradeOf l x))) l c (packed x (gradeOf l x))
+add-grows l c x = deep-grows (ltb 16 (gradeOf l x .depth)) (findLine l (afterParts x) c (packed x (gradeOf l x))) l c (packed x (gradeOf l x))
 
 -- the same where the answer is a label or a refusal
 pub enter-grows : (l : List ℕ) (c : ℕ) (x : Term) → Grown l c (enteredIn l c x .table) (enteredIn l c x .out .count)
@@ -214,16 +215,23 @@ after-grows (Label i) c l vs o y = rw (second-count i (substIn 16 l c vs o y .ou
 after-grows Deep c l vs o y = grown-same
 after-grows Full c l vs o y = grown-same
 
-fit-grows : (a b : Bool) (l : List ℕ) (c : ℕ) (r : Held Operands) → Grown l c (r .table) (r .out .count)
-    → Grown l c (pick a (pick b r (held (operands T.Deep c) l)) (held (operands T.Deep c) l) .table) (pick a (pick b r (held (operands T.Deep c) l)) (held (operands T.Deep c) l) .out .count)
-fit-grows true true l c r g = g
-fit-grows true false l c r g = grown-same
-fit-grows false b l c r g = grown-same
-
--- both operands of an action, whatever comes of them
-pub operands-grow : (l : List ℕ) (c : ℕ) (vs : List ℕ) (o x y : ℕ) → Grown l c (takeOperands l c vs o x y .table) (takeOperands l c vs o x y .out .count)
-unfolding takeOperands
-operands-grow l c vs o x y =
+-- both operands one after the other, whatever comes of them
+pub both-operands-grow : (l : List ℕ) (c : ℕ) (vs : List ℕ) (o x y : ℕ) → Grown l c (takeBoth l c vs o x y .table) (takeBoth l c vs o x y .out .count)
+unfolding takeBoth
+both-operands-grow l c vs o x y =
     let p = substIn 16 l c vs o x in
-    fit-grows (fitsWithin 16 l vs o x) (fitsWithin 16 l vs o y) l c (takeBy p vs o y)
-    (grown-then (subst-grows 16 l c vs o x) (after-grows (p .out .got) (p .out .count) (p .table) vs o y))
+    grown-then (subst-grows 16 l c vs o x) (after-grows (p .out .got) (p .out .count) (p .table) vs o y)
+
+settled-grows : {l : List ℕ} {c : ℕ} → c ≤ 512 → ZeroPast l c → (t : Taken) (d : ℕ) (m vs : List ℕ) (o x y : ℕ) → Grown l c m d
+    → Grown l c (settledBy t d m c vs o x y .table) (settledBy t d m c vs o x y .out .count)
+settled-grows s z (T.Labels i j) d m vs o x y g = g
+settled-grows s z T.Deep d m vs o x y g = rw (cut-back s z g) grown-same
+settled-grows s z T.Full d m vs o x y g = rw (cut-back s z g) grown-same
+
+-- both operands of an action, whatever comes of them, in a table that is zero past its count
+pub operands-grow : {l : List ℕ} {c : ℕ} → c ≤ 512 → ZeroPast l c → (vs : List ℕ) (o x y : ℕ)
+    → Grown l c (takeOperands l c vs o x y .table) (takeOperands l c vs o x y .out .count)
+unfolding takeOperands
+operands-grow {l} {c} s z vs o x y =
+    let r = takeBoth l c vs o x y in
+    settled-grows s z (r .out .taken) (r .out .count) (r .table) vs o x y (both-operands-grow l c vs o x y)

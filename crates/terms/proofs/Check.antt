@@ -52,11 +52,11 @@ other-new k [] n f = refl
 other-new k (m ∷ l) n f = rw (ne-eqb m n (f 0 (omega arith))) (other-new (k + 1) l n (λ j h. f (suc j) (omega arith)))
 
 module _ (l : List ℕ) (long : length l ≡ 512) where
-  pub new-line : (i : ℕ) → i ≤ 512 → isNew (findLine l i (lineAt l i)) ≡ true → (j : ℕ) → j < i → lineAt l j ≡ lineAt l i → ⊥
+  pub new-line : (i : ℕ) → i ≤ 512 → isNew (findLine l 0 i (lineAt l i)) ≡ true → (j : ℕ) → j < i → lineAt l j ≡ lineAt l i → ⊥
   unfolding findLine
   new-line i h e j s p = new-other 0 (take i l) (lineAt l i) e j (rw (length-take-le i l (omega arith)) s) (getD-take i l j 0 s ∙ p)
 
-  pub line-new : (i : ℕ) → i ≤ 512 → ((j : ℕ) → j < i → lineAt l j ≡ lineAt l i → ⊥) → isNew (findLine l i (lineAt l i)) ≡ true
+  pub line-new : (i : ℕ) → i ≤ 512 → ((j : ℕ) → j < i → lineAt l j ≡ lineAt l i → ⊥) → isNew (findLine l 0 i (lineAt l i)) ≡ true
   unfolding findLine
   line-new i h f = other-new 0 (take i l) (lineAt l i) (λ j s p. let t : j < i = omega (arith, length-take-le i l (omega arith)) in f j t (sym (getD-take i l j 0 t) ∙ p))
 
@@ -93,7 +93,7 @@ record Judged (l : List ℕ) (i : ℕ) : Type 0 where
   parts : partsBelow (termAt l i) i ≡ true
   shallow : gradeOf l (termAt l i) .depth ≤ 16
   line : packed (termAt l i) (gradeOf l (termAt l i)) ≡ lineAt l i
-  new : isNew (findLine l i (lineAt l i)) ≡ true
+  new : isNew (findLine l 0 i (lineAt l i)) ≡ true
 
 judged : (l : List ℕ) (i : ℕ) → lineSound l i ≡ true → Judged l i
 unfolding lineSound

@@ -11,4 +11,3 @@ pub mod Depth
 pub mod Substs
 pub mod Room
 pub mod Only
-pub mod Facts

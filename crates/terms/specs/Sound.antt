@@ -30,7 +30,7 @@ isNew Nothing = true
 abbrev pub lineBy : Grade → List ℕ → ℕ → Bool
 lineBy g l i =
     pick (ltb 16 (g .depth)) false
-    (pick (eqb (packed (termAt l i) g) (lineAt l i)) (isNew (findLine l i (lineAt l i))) false)
+    (pick (eqb (packed (termAt l i) g) (lineAt l i)) (isNew (findLine l 0 i (lineAt l i))) false)
 
 -- the line at label i, judged by the lines before it
 unfoldable pub lineSound : List ℕ → ℕ → Bool

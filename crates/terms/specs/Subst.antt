@@ -7,7 +7,7 @@ use lib.Dec.{leb}
 use Rattle.terms.specs.Base.{pick, also, Held, held}
 use Rattle.terms.specs.Term.{term, shapeOf}
 use Rattle.terms.specs.Line.{lineAt, termAt, depthIn, groundIn}
-use Rattle.terms.specs.Table.{addTo}
+use Rattle.terms.specs.Table.{addTo, cutTo}
 use Rattle.terms.specs.declared.term.Term.{Term}
 use Rattle.terms.specs.declared.term.Shape.{Shape}
 use Rattle.terms.specs.declared.term.Shape.the-variants.{Bare, Number, Variable, Sealed, Hashed, Applied, Joined, Unknown}
@@ -107,7 +107,7 @@ unfoldable pub substIn : ℕ → List ℕ → ℕ → List ℕ → ℕ → ℕ �
 substIn zero l c vs o i = held (subbed Deep c) l
 substIn (suc n) l c vs o i = walkBy (planAt l vs o i) (λ m d j. substIn n m d vs o j) l c i
 
--- both operands of an action: the depths of both (8), then the room for both (9)
+-- both operands of an action: one is too deep (8), or there is no room for both (9)
 abbrev pub operands : Taken → ℕ → Operands
 operands t c = record { taken = t; count = c }
 
@@ -127,8 +127,22 @@ afterFirst Full c l vs o y = held (operands T.Full c) l
 abbrev pub takeBy : Held Subbed → List ℕ → ℕ → ℕ → Held Operands
 takeBy p vs o y = afterFirst (p .out .got) (p .out .count) (p .table) vs o y
 
+-- one after the other, until one cannot be entered
+unfoldable pub takeBoth : List ℕ → ℕ → List ℕ → ℕ → ℕ → ℕ → Held Operands
+takeBoth l c vs o x y = takeBy (substIn 16 l c vs o x) vs o y
+
+-- no room for both: 8 where one is too deep, else 9
+unfoldable pub deepOrFull : List ℕ → List ℕ → ℕ → ℕ → ℕ → Taken
+deepOrFull l vs o x y = pick (fitsWithin 16 l vs o x) (pick (fitsWithin 16 l vs o y) T.Full T.Deep) T.Deep
+
+-- a refusal leaves the table as it came, with c terms
+abbrev pub settledBy : Taken → ℕ → List ℕ → ℕ → List ℕ → ℕ → ℕ → ℕ → Held Operands
+settledBy (T.Labels i j) d m c vs o x y = held (operands (T.Labels i j) d) m
+settledBy T.Deep d m c vs o x y = held (operands T.Deep c) (cutTo m c d)
+settledBy T.Full d m c vs o x y = let l = cutTo m c d in held (operands (deepOrFull l vs o x y) c) l
+
+abbrev pub settled : Held Operands → ℕ → List ℕ → ℕ → ℕ → ℕ → Held Operands
+settled r c vs o x y = settledBy (r .out .taken) (r .out .count) (r .table) c vs o x y
+
 unfoldable pub takeOperands : List ℕ → ℕ → List ℕ → ℕ → ℕ → ℕ → Held Operands
-takeOperands l c vs o x y =
-    pick (fitsWithin 16 l vs o x)
-    (pick (fitsWithin 16 l vs o y) (takeBy (substIn 16 l c vs o x) vs o y) (held (operands T.Deep c) l))
-    (held (operands T.Deep c) l)
+takeOperands l c vs o x y = settled (takeBoth l c vs o x y) c vs o x y

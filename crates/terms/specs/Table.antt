@@ -3,10 +3,10 @@ use Prim.Native.Nat.{ℕ, zero, suc, _+_, _-_, _≤_, max}
 use mathlib.Core.Path.{_≡_}
 use mathlib.Core.Bool.{Bool, true, false}
 use mathlib.Core.List.{List, [], _∷_}
-use lib.ListN.{take, set, replicate}
+use lib.ListN.{take, drop, set, replicate}
 use lib.Dec.{ltb, eqb}
 use Rattle.terms.specs.Base.{pick, Held, held}
-use Rattle.terms.specs.Term.{term}
+use Rattle.terms.specs.Term.{term, afterParts}
 use Rattle.terms.specs.Line.{grade, packed}
 use Rattle.terms.specs.Grade.{gradeOf}
 use Rattle.terms.specs.declared.term.Term.{Term}
@@ -45,11 +45,13 @@ unfoldable pub findIn : ℕ → List ℕ → ℕ → Found
 findIn i [] n = Nothing
 findIn i (m ∷ ms) n = pick (eqb m n) (At i) (findIn (i + 1) ms n)
 
-unfoldable pub findLine : List ℕ → ℕ → ℕ → Found
-findLine l c n = findIn 0 (take c l) n
+-- of the first c lines, those from label i on
+unfoldable pub findLine : List ℕ → ℕ → ℕ → ℕ → Found
+findLine l i c n = findIn i (drop i (take c l)) n
 
+-- "Parts are labels of earlier terms": a term is looked for behind its parts
 abbrev pub findBy : Grade → List ℕ → ℕ → Term → Found
-findBy g l c x = pick (ltb 16 (g .depth)) Nothing (findLine l c (packed x g))
+findBy g l c x = pick (ltb 16 (g .depth)) Nothing (findLine l (afterParts x) c (packed x g))
 
 unfoldable pub findTerm : List ℕ → ℕ → Term → Found
 findTerm l c x = findBy (gradeOf l x) l c x
@@ -63,7 +65,7 @@ addBy (At i) l c n = held (added (Listed i) c) l
 addBy Nothing l c n = pick (eqb (freeOf c) 0) (held (added Full c) l) (held (added (New c) (c + 1)) (set l c n))
 
 abbrev pub addGraded : Grade → List ℕ → ℕ → Term → Held Added
-addGraded g l c x = pick (ltb 16 (g .depth)) (held (added Deep c) l) (addBy (findLine l c (packed x g)) l c (packed x g))
+addGraded g l c x = pick (ltb 16 (g .depth)) (held (added Deep c) l) (addBy (findLine l (afterParts x) c (packed x g)) l c (packed x g))
 
 unfoldable pub addTo : List ℕ → ℕ → Term → Held Added
 addTo l c x = addGraded (gradeOf l x) l c x

@@ -52,3 +52,18 @@ partsBy Unknown a b i = true
 
 unfoldable pub partsBelow : Term → ℕ → Bool
 partsBelow x i = partsBy (shapeOf (x .kind)) (x .a) (x .b) i
+
+-- the later of a term's parts, 0 where it has none
+abbrev pub afterBy : Shape → ℕ → ℕ → ℕ
+afterBy Bare a b = 0
+afterBy Number a b = 0
+afterBy Variable a b = 0
+afterBy Sealed a b = a
+afterBy Hashed a b = a
+afterBy Applied a b = b
+afterBy Joined a b = pick (ltb a b) b a
+afterBy Unknown a b = 0
+
+-- the label from which on a term is looked for
+unfoldable pub afterParts : Term → ℕ
+afterParts x = afterBy (shapeOf (x .kind)) (x .a) (x .b)

@@ -9,12 +9,20 @@ use crate::term::Term;
 use crate::term::both;
 use crate::term::shape_of;
 ghost use mathlib.Core.Path.{_≡_};
+ghost use Rattle.terms.specs.Term.{term};
 ghost use Rattle.terms.specs.Grade.{gradeOf, aboveLine, aboveBoth, deeperOf};
 
 pub fn grade_of(t: &[u64; 512], x: Term) -> Grade
     ensures { λ r. ⌜ r ≡ gradeOf (now (t .entry)) x ⌝ }
 {
-    let s = shape_of(x.kind);
+    grade_parts(t, x.kind, x.a, x.b)
+}
+
+// The same of a term's fields: a struct would go through memory, and new terms are graded all the time.
+pub fn grade_parts(t: &[u64; 512], kind: u8, a: u16, b: u16) -> Grade
+    ensures { λ r. ⌜ r ≡ gradeOf (now (t .entry)) (term kind a b) ⌝ }
+{
+    let s = shape_of(kind);
     match s {
         Shape::Bare => Grade {
             depth: 1,
@@ -28,10 +36,10 @@ pub fn grade_of(t: &[u64; 512], x: Term) -> Grade
             depth: 1,
             ground: false,
         },
-        Shape::Sealed => above(line_at(t, x.a)),
-        Shape::Hashed => above(line_at(t, x.a)),
-        Shape::Applied => above(line_at(t, x.b)),
-        Shape::Joined => above_both(line_at(t, x.a), line_at(t, x.b)),
+        Shape::Sealed => above(line_at(t, a)),
+        Shape::Hashed => above(line_at(t, a)),
+        Shape::Applied => above(line_at(t, b)),
+        Shape::Joined => above_both(line_at(t, a), line_at(t, b)),
         Shape::Unknown => Grade {
             depth: 1,
             ground: true,

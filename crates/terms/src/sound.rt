@@ -79,7 +79,7 @@ fn line_sound(t: &[u64; 512], label: u16) -> bool
     if pack(x, g) != n {
         return false;
     }
-    let f = find_line(t, label, n);
+    let f = find_line(t, 0, label, n);
     match f {
         Found::At(_) => false,
         Found::Nothing => true,

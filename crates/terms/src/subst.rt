@@ -7,15 +7,16 @@ use crate::line::line_at;
 use crate::line::term_in;
 use crate::table::Added;
 use crate::table::Outcome;
-use crate::table::add;
+use crate::table::add_parts;
+use crate::table::cut;
 use crate::term::Shape;
-use crate::term::Term;
 use crate::term::shape_of;
 ghost use mathlib.Core.Path.{_≡_};
 ghost use Prim.Native.Nat.{_+_};
 ghost use lib.ListN.{getD};
+ghost use Rattle.terms.specs.Term.{term};
 ghost use Rattle.terms.specs.Base.{held};
-ghost use Rattle.terms.specs.Subst.{planAt, fitsWithin, enteredIn, withFirst, withSecond, withBoth, secondOperand, substIn, takeOperands};
+ghost use Rattle.terms.specs.Subst.{planAt, fitsWithin, enteredIn, withFirst, withSecond, withBoth, secondOperand, substIn, takeBoth, deepOrFull, takeOperands};
 
 // What is to be done at a label: keep a label, or go down its parts.
 pub enum Plan {
@@ -161,15 +162,7 @@ fn with_first(t: &mut [u64; 512], label: u16, r: Subbed) -> Subbed
     match g {
         Got::Label(i) => {
             let x = term_in(line_at(t, label));
-            entered(
-                t,
-                r.count,
-                Term {
-                    kind: x.kind,
-                    a: i,
-                    b: x.b,
-                },
-            )
+            entered(t, r.count, x.kind, i, x.b)
         }
         Got::Deep => Subbed {
             got: Got::Deep,
@@ -189,15 +182,7 @@ fn with_second(t: &mut [u64; 512], label: u16, r: Subbed) -> Subbed
     match g {
         Got::Label(i) => {
             let x = term_in(line_at(t, label));
-            entered(
-                t,
-                r.count,
-                Term {
-                    kind: x.kind,
-                    a: x.a,
-                    b: i,
-                },
-            )
+            entered(t, r.count, x.kind, x.a, i)
         }
         Got::Deep => Subbed {
             got: Got::Deep,
@@ -217,15 +202,7 @@ fn with_both(t: &mut [u64; 512], label: u16, first: u16, r: Subbed) -> Subbed
     match g {
         Got::Label(i) => {
             let x = term_in(line_at(t, label));
-            entered(
-                t,
-                r.count,
-                Term {
-                    kind: x.kind,
-                    a: first,
-                    b: i,
-                },
-            )
+            entered(t, r.count, x.kind, first, i)
         }
         Got::Deep => Subbed {
             got: Got::Deep,
@@ -239,10 +216,10 @@ fn with_both(t: &mut [u64; 512], label: u16, first: u16, r: Subbed) -> Subbed
 }
 
 // A term listed, old or new, as a substitution's answer.
-fn entered(t: &mut [u64; 512], count: u16, x: Term) -> Subbed
-    ensures { λ r. ⌜ held r (now (t .exit)) ≡ enteredIn (now (t .entry)) count x ⌝ }
+fn entered(t: &mut [u64; 512], count: u16, kind: u8, a: u16, b: u16) -> Subbed
+    ensures { λ r. ⌜ held r (now (t .exit)) ≡ enteredIn (now (t .entry)) count (term kind a b) ⌝ }
 {
-    let r = add(t, count, x);
+    let r = add_parts(t, count, kind, a, b);
     let o = r.outcome;
     match o {
         Outcome::Listed(i) => Subbed {
@@ -264,7 +241,8 @@ fn entered(t: &mut [u64; 512], count: u16, x: Term) -> Subbed
     }
 }
 
-// Both operands of an action: first the depths of both, then the room for both.
+// Both operands of an action, each walked once. Where there is no room it is asked whether one is too deep, since 8
+// comes before 9. A refusal leaves the table as it came.
 pub fn take_operands(
     t: &mut [u64; 512],
     count: u16,
@@ -275,18 +253,45 @@ pub fn take_operands(
 ) -> Operands
     ensures { λ r. ⌜ held r (now (t .exit)) ≡ takeOperands (now (t .entry)) count (now (values .entry)) base x y ⌝ }
 {
+    let r = take_both(t, count, values, base, x, y);
+    let k = r.taken;
+    match k {
+        Taken::Labels(i, j) => Operands {
+            taken: Taken::Labels(i, j),
+            count: r.count,
+        },
+        Taken::Deep => {
+            cut(t, count, r.count);
+            Operands {
+                taken: Taken::Deep,
+                count,
+            }
+        }
+        Taken::Full => {
+            cut(t, count, r.count);
+            let taken = deep_or_full(t, values, base, x, y);
+            Operands { taken, count }
+        }
+    }
+}
+
+// Why both operands cannot be entered, where there is no room for both.
+fn deep_or_full(t: &[u64; 512], values: &[u16], base: u16, x: u16, y: u16) -> Taken
+    ensures { λ r. ⌜ r ≡ deepOrFull (now (t .entry)) (now (values .entry)) base x y ⌝ }
+{
     if !fits_within(t, values, base, x, 16) {
-        return Operands {
-            taken: Taken::Deep,
-            count,
-        };
+        return Taken::Deep;
     }
     if !fits_within(t, values, base, y, 16) {
-        return Operands {
-            taken: Taken::Deep,
-            count,
-        };
+        return Taken::Deep;
     }
+    Taken::Full
+}
+
+// Both operands entered one after the other, until one cannot be.
+fn take_both(t: &mut [u64; 512], count: u16, values: &[u16], base: u16, x: u16, y: u16) -> Operands
+    ensures { λ r. ⌜ held r (now (t .exit)) ≡ takeBoth (now (t .entry)) count (now (values .entry)) base x y ⌝ }
+{
     let p = subst(t, count, values, base, x, 16);
     let g = p.got;
     match g {

@@ -1,12 +1,15 @@
 // The term table: 512 lines that the caller lends, of which the first count hold terms and the others are zero. A
 // label is a line's place.
 use crate::grade::grade_of;
+use crate::grade::grade_parts;
 use crate::line::Grade;
 use crate::line::known;
 use crate::line::pack;
 use crate::term::Term;
+use crate::term::after_parts;
 ghost use mathlib.Core.Path.{_≡_};
 ghost use Rattle.terms.specs.Base.{held};
+ghost use Rattle.terms.specs.Term.{term};
 ghost use Rattle.terms.specs.Table.{fixedLine, freshTable, Used, Free, findLine, findTerm, addTo, cutTo};
 
 pub struct Table {
@@ -91,13 +94,13 @@ pub fn free_entries(count: u16) -> u16
     }
 }
 
-// The first line that is n.
-pub fn find_line(t: &[u64; 512], count: u16, n: u64) -> Found
-    ensures { λ r. ⌜ r ≡ findLine (now (t .entry)) count n ⌝ }
+// The first line that is n, from a label on.
+pub fn find_line(t: &[u64; 512], from: u16, count: u16, n: u64) -> Found
+    ensures { λ r. ⌜ r ≡ findLine (now (t .entry)) from count n ⌝ }
 {
     known(t);
     let end = used(count) as usize;
-    let mut i = 0;
+    let mut i = from as usize;
     while i < end {
         let line = t[i];
         if line == n {
@@ -109,7 +112,7 @@ pub fn find_line(t: &[u64; 512], count: u16, n: u64) -> Found
     Found::Nothing
 }
 
-// The label of a term.
+// The label of a term, looked for behind its parts.
 pub fn find(t: &[u64; 512], count: u16, x: Term) -> Found
     ensures { λ r. ⌜ r ≡ findTerm (now (t .entry)) count x ⌝ }
 {
@@ -117,22 +120,30 @@ pub fn find(t: &[u64; 512], count: u16, x: Term) -> Found
     if Term::DEPTH < g.depth {
         return Found::Nothing;
     }
-    find_line(t, count, pack(x, g))
+    find_line(t, after_parts(x), count, pack(x, g))
 }
 
 // Lists a term unless it is there.
 pub fn add(t: &mut [u64; 512], count: u16, x: Term) -> Added
     ensures { λ r. ⌜ held r (now (t .exit)) ≡ addTo (now (t .entry)) count x ⌝ }
 {
-    let g = grade_of(t, x);
+    add_parts(t, count, x.kind, x.a, x.b)
+}
+
+// The same of a term's fields: a struct would go through memory, and a substitution adds term after term.
+pub fn add_parts(t: &mut [u64; 512], count: u16, kind: u8, a: u16, b: u16) -> Added
+    ensures { λ r. ⌜ held r (now (t .exit)) ≡ addTo (now (t .entry)) count (term kind a b) ⌝ }
+{
+    let g = grade_parts(t, kind, a, b);
     if Term::DEPTH < g.depth {
         return Added {
             outcome: Outcome::Deep,
             count,
         };
     }
+    let x = Term { kind, a, b };
     let n = pack(x, g);
-    let f = find_line(t, count, n);
+    let f = find_line(t, after_parts(x), count, n);
     match f {
         Found::At(i) => Added {
             outcome: Outcome::Listed(i),

@@ -1,8 +1,9 @@
 // A term as one line of the table: its kind and its two fields. What the fields of a kind are, parts, numbers or
 // unused, is decided here and nowhere else.
 ghost use mathlib.Core.Path.{_≡_};
-ghost use Rattle.terms.specs.Base.{also};
-ghost use Rattle.terms.specs.Term.{shapeOf, inLimits, partsBelow};
+ghost use lib.Dec.{ltb};
+ghost use Rattle.terms.specs.Base.{pick, also};
+ghost use Rattle.terms.specs.Term.{shapeOf, inLimits, partsBelow, afterParts};
 
 pub struct Term {
     pub kind: u8,
@@ -114,4 +115,27 @@ pub fn parts_below(x: Term, label: u16) -> bool
         Shape::Joined => both(x.a < label, x.b < label),
         Shape::Unknown => true,
     }
+}
+
+// The later of a term's parts, 0 where it has none. Parts stand before wholes, so the term stands at no label before it.
+pub fn after_parts(x: Term) -> u16
+    ensures { λ r. ⌜ r ≡ afterParts x ⌝ }
+{
+    let s = shape_of(x.kind);
+    match s {
+        Shape::Bare => 0,
+        Shape::Number => 0,
+        Shape::Variable => 0,
+        Shape::Sealed => x.a,
+        Shape::Hashed => x.a,
+        Shape::Applied => x.b,
+        Shape::Joined => later(x.a, x.b),
+        Shape::Unknown => 0,
+    }
+}
+
+fn later(a: u16, b: u16) -> u16
+    ensures { λ r. ⌜ r ≡ pick (ltb a b) b a ⌝ }
+{
+    if a < b { b } else { a }
 }

@@ -8,7 +8,7 @@ use native.Mathlib.Omega.{arith}
 use lib.ListN.{length, getD, set, take, length-append}
 use lib.Seq.{take-at}
 use lib.Dec.{ltb, eqb}
-use borrow.Author.Tests.{ne-eqb}
+use borrow.Author.Tests.{ne-eqb, le-ltb}
 use Rattle.walk.specs.Base.{All, pick}
 use Rattle.walk.specs.Machine.{Machine, Coded, Outcome, refused, tooBig, goes, breaks}
 use Rattle.walk.specs.Reply.{Kind, found, stop, end, Reply}
@@ -21,7 +21,7 @@ use Rattle.walk.specs.Array.{Spot, stackOf, view, wordOf, settledIn, aft
 use Rattle.walk.specs.List.{Close, full, spent, done, Listed, closed, withWords, withCounts, listTurn, listWalk, listIn, asOne, thenList, onFrom, thenOn, listOn, listAll, Closes, no-room, used-up, no-more, ListPassed}
 use Rattle.walk.proofs.Codes.{from-head, from-past, from-zero, from-mem}
 use Rattle.walk.specs.Answers.{AnyBudget, Answers, seen}
-use Rattle.walk.proofs.Lists.{all-at, bad-append, sized-append}
+use Rattle.walk.proofs.Lists.{all-at, all-imp, all-of, bad-append, sized-append}
 use Rattle.walk.proofs.Loop.{settled-here, Clean, settle-clean, search-clean}
 use Rattle.walk.proofs.Gather.{at-found, at-stop, at-end, Counted, one-call}
 use Rattle.walk.proofs.Array.{Ok, program}
@@ -534,28 +534,63 @@ module _ (M : Machine) (n : ℕ) (q : Spot) (r t z : ℕ) where
   unfolding listWalk
   list-turn b o e f = rw (e, f)
 
-turn-refused : (M : Machine) (n b : ℕ) (q : Spot) (r t z : ℕ) → eqb (q .next) (M .none) ≡ false → M .try (at M (stackOf (q .codes) (q .len)))
-    (q .next) ≡ refused →
-    listWalk M (suc b) n q (suc r) t z ≡ listWalk M b n (settledIn M (q .codes) (q .len) (from (suc (q .next)) (M .codes))) (suc r) (suc t) z
-unfolding afterIn
-turn-refused M n b q r t z h e = list-turn M n q r t z b refused h e
+-- a try after which the walk stays at its schedule and finds nothing: refused; or permitted where nothing is entered, for a schedule
+-- of j codes and one more is as long as the bound
+pub data Stays (M : Machine) (n j : ℕ) : Outcome (M .Conf) → Type 0 where
+  no-step : Stays M n j refused
+  too-long : {d : M .Conf} → n ≤ suc j → Stays M n j (goes d)
 
--- a piece of the codes left, all refused, is passed together
-pub list-skip : (M : Machine) → Coded M → (n : ℕ) (cs : List ℕ) (j : ℕ) (seg ks : List ℕ) (i b r t z : ℕ) → from i (M .codes) ≡ seg ++ ks →
-    All (λ k. M .try (at M (stackOf cs j)) k ≡ refused) seg → length seg ≤ b →
+-- at such a schedule every plain try is one
+pub plain-stays : (M : Machine) (n j : ℕ) → n ≤ suc j → (o : Outcome (M .Conf)) → markOf o ≡ plain → Stays M n j o
+plain-stays M n j h refused e = no-step
+plain-stays M n j h tooBig e = absurd (let z : _≡_ {A = ℕ} 0 1 = cc in omega arith)
+plain-stays M n j h (goes d) e = too-long h
+plain-stays M n j h breaks e = absurd (let z : _≡_ {A = ℕ} 0 1 = cc in omega arith)
+
+turn-stays : (M : Machine) (n b : ℕ) (q : Spot) (r t z : ℕ) (o : Outcome (M .Conf)) → Stays M n (q .len) o →
+    listTurn (markOf o) (wordOf q) (afterIn M n q o) r (listWalk M b n) t z ≡
+    listWalk M b n (settledIn M (q .codes) (q .len) (from (suc (q .next)) (M .codes))) (suc r) (suc t) z
+unfolding afterIn
+turn-stays M n b q r t z refused no-step = refl
+turn-stays M n b q r t z (goes d) (too-long h) = rw (le-ltb (suc (q .len)) n h)
+
+-- a piece of the codes left, all such, is passed together
+pub list-pass : (M : Machine) → Coded M → (n : ℕ) (cs : List ℕ) (j : ℕ) (seg ks : List ℕ) (i b r t z : ℕ) → from i (M .codes) ≡ seg ++ ks →
+    All (λ k. Stays M n j (M .try (at M (stackOf cs j)) k)) seg → length seg ≤ b →
     listWalk M b n (settledIn M cs j (seg ++ ks)) (suc r) t z ≡ listWalk M (b - length seg) n (settledIn M cs j ks) (suc r) (t + length seg) z
-list-skip M C n cs j [] ks i b r t z e a l =
+list-pass M C n cs j [] ks i b r t z e a l =
     let x : b - 0 ≡ b = omega arith in
     let y : t + 0 ≡ t = omega arith in
     rw (x, y)
-list-skip M C n cs j (k ∷ seg) ks i zero r t z e a l = absurd (omega arith)
-list-skip M C n cs j (k ∷ seg) ks i (suc b) r t z e a l =
+list-pass M C n cs j (k ∷ seg) ks i zero r t z e a l = absurd (omega arith)
+list-pass M C n cs j (k ∷ seg) ks i (suc b) r t z e a l =
     let h : (from k (M .codes) ≡ k ∷ (seg ++ ks)) × (from (suc k) (M .codes) ≡ seg ++ ks) = from-head (M .codes) (C .rise) i k (seg ++ ks) e in
     let m : k < M .none = all-at (λ x. x < M .none) (from-mem i (M .codes) (rw e (List·Memᴰ·head refl))) (C .below) in
     let x : suc b - suc (length seg) ≡ b - length seg = omega arith in
     let y : t + suc (length seg) ≡ suc t + length seg = omega arith in
+    let q : Spot = record { codes = cs; len = j; next = k } in
     ap (λ (q : Spot). listWalk M (suc b) n q (suc r) t z) (settled-here M cs j k (seg ++ ks)) ∙
-    turn-refused M n b (record { codes = cs; len = j; next = k }) r t z (ne-eqb k (M .none) (λ q. omega arith)) (a .0) ∙
+    list-turn M n q r t z b (M .try (at M (stackOf cs j)) k) (ne-eqb k (M .none) (λ p. omega arith)) refl ∙
+    turn-stays M n b q r t z (M .try (at M (stackOf cs j)) k) (a .0) ∙
     ap (λ (s : List ℕ). listWalk M b n (settledIn M cs j s) (suc r) (suc t) z) (h .1) ∙
-    list-skip M C n cs j seg ks (suc k) b r (suc t) z (h .1) (a .1) (omega arith) ∙
+    list-pass M C n cs j seg ks (suc k) b r (suc t) z (h .1) (a .1) (omega arith) ∙
     rw (x, y)
+
+-- the codes of a piece are all refused
+pub list-skip : (M : Machine) → Coded M → (n : ℕ) (cs : List ℕ) (j : ℕ) (seg ks : List ℕ) (i b r t z : ℕ) → from i (M .codes) ≡ seg ++ ks →
+    All (λ k. M .try (at M (stackOf cs j)) k ≡ refused) seg → length seg ≤ b →
+    listWalk M b n (settledIn M cs j (seg ++ ks)) (suc r) t z ≡ listWalk M (b - length seg) n (settledIn M cs j ks) (suc r) (t + length seg) z
+list-skip M C n cs j seg ks i b r t z e a l =
+    list-pass M C n cs j seg ks i b r t z e
+    (all-imp (λ k. M .try (at M (stackOf cs j)) k ≡ refused) (λ k. Stays M n j (M .try (at M (stackOf cs j)) k)) (λ k f. rw f no-step) seg a) l
+
+-- all codes of a schedule from which nothing is entered are plain: it is passed whole
+pub list-whole : (M : Machine) → Coded M → (n : ℕ) (cs : List ℕ) (j b r t z : ℕ) → n ≤ suc j →
+    ((k : ℕ) → markOf (M .try (at M (stackOf cs j)) k) ≡ plain) → length (M .codes) ≤ b →
+    listWalk M b n (settledIn M cs j (M .codes)) (suc r) t z ≡
+    listWalk M (b - length (M .codes)) n (settledIn M cs j []) (suc r) (t + length (M .codes)) z
+list-whole M C n cs j b r t z h a l =
+    let e : M .codes ++ [] ≡ M .codes = append-nil (M .codes) in
+    ap (λ (ks : List ℕ). listWalk M b n (settledIn M cs j ks) (suc r) t z) (sym e) ∙
+    list-pass M C n cs j (M .codes) [] 0 b r t z (from-zero (M .codes) ∙ sym e)
+    (all-of (λ k. Stays M n j (M .try (at M (stackOf cs j)) k)) (M .codes) (λ k p. plain-stays M n j h (M .try (at M (stackOf cs j)) k) (a k))) l

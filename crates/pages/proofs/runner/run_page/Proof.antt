@@ -17,8 +17,8 @@ put-answers-requires c κs = search needs
 all-accepts-requires : tie.Need-all-accepts-requires
 all-accepts-requires c κs = search needs
 
-first-break-requires : tie.Need-first-break-requires
-first-break-requires c κs = search needs
+judge-requires : tie.Need-judge-requires
+judge-requires c κs = search needs
 
 put-done-requires : tie.Need-put-done-requires
 put-done-requires c κs = search needs
@@ -47,7 +47,7 @@ returns c =
       put-then,
       ← (p10 .put-answers .ensures),
       ← (p6 .all-accepts .ensures),
-      ← (p4 .first-break .ensures),
+      ← (p4 .judge .ensures),
       ← (p2 .put-done .ensures),
     )
 
@@ -59,7 +59,7 @@ run-page-spec =
     run-requires
     put-answers-requires
     all-accepts-requires
-    first-break-requires
+    judge-requires
     put-done-requires
     same-length
     same-length-2

@@ -15,11 +15,11 @@ with-var-requires c κs = search needs
 
 returns : tie.Need-returns
 unfolding bound
-returns c = rw (← (c .before .before .is-last .ensures .is), c .before .if1 .taken, ← (c .cleared .ensures))
+returns c = rw (← (c .before .before .before .is-last .ensures .is), c .before .before .if1 .taken, ← (c .cleared .ensures))
 
 returns-2 : tie.Need-returns-2
 unfolding bound
-returns-2 c = rw (← (c .before .before .is-last .ensures .is), c .before .if1 .left, ← (c .with-var .ensures))
+returns-2 c = rw (← (c .before .before .before .is-last .ensures .is), c .before .before .if1 .left, ← (c .with-var .ensures))
 
 pub bound-spec : {M : Type 1} → statement M
 bound-spec =

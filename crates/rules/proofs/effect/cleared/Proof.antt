@@ -2,7 +2,6 @@
 -- on gives. The measure is the places left.
 use Prim.Native.Nat.{_-_, _≤_}
 use mathlib.Core.Path.{_≡_, sym, _∙_}
-use lib.ListN.{length}
 use borrow.Author.Needs.{needs}
 use Rattle.rules.specs.Effect.{filled, cleared}
 use Rattle.rules.proofs.Loops.{fill-more, fill-end, cleared-start}
@@ -10,10 +9,10 @@ use Rattle.rules.proofs.effect.cleared.Statement.{statement}
 use Rattle.rules.proofs.effect.cleared.Tie as tie
 
 abbrev Inv-loop : tie.InvT-loop
-Inv-loop slot out₀ k₀ end out k = (cleared 0 out₀ slot ≡ filled 0 (end - k) k out) × (length out ≡ 192) × (end ≤ 192)
+Inv-loop vars₀ slot k₀ end vars k = (cleared 0 vars₀ slot ≡ filled 0 (end - k) k vars) × (end ≤ 192)
 
 abbrev μ-loop : tie.MeasureT-loop
-μ-loop slot out₀ k₀ end out k = end - k
+μ-loop vars₀ slot k₀ end vars k = end - k
 
 place-of-requires : tie.Need-place-of-requires Inv-loop μ-loop
 place-of-requires c κs = search needs
@@ -25,13 +24,13 @@ last-place-requires : tie.Need-last-place-requires Inv-loop μ-loop
 last-place-requires c κs = search needs
 
 loop-holds : tie.Need-loop-holds Inv-loop μ-loop
-loop-holds c = (rw (c .before .place-of .ensures, c .last-place .ensures .is) (cleared-start 0 _ _), search needs, search needs)
+loop-holds c = (rw (c .before .place-of .ensures, c .last-place .ensures .is) (cleared-start 0 _ _), search needs)
 
-mul-out : tie.Need-mul-out Inv-loop μ-loop
-mul-out c = search needs
+mul-vars : tie.Need-mul-vars Inv-loop μ-loop
+mul-vars c = search needs
 
-array-write-out : tie.Need-array-write-out Inv-loop μ-loop
-array-write-out c = search needs
+element-write-vars : tie.Need-element-write-vars Inv-loop μ-loop
+element-write-vars c = search needs
 
 add-k : tie.Need-add-k Inv-loop μ-loop
 add-k c = search needs
@@ -40,10 +39,10 @@ loop-less : tie.Need-loop-less Inv-loop μ-loop
 loop-less c = search needs
 
 loop-again : tie.Need-loop-again Inv-loop μ-loop
-loop-again c = let l = c .before .loop in (l .inv .0 ∙ fill-more 0 _ (l .k) (l .out) (c .loop-test .taken), search needs, search needs)
+loop-again c = let l = c .before .loop in (l .inv .0 ∙ fill-more 0 _ (l .k) (l .vars) (c .loop-test .taken), search needs)
 
 returns : tie.Need-returns Inv-loop μ-loop
-returns c = let l = c .before .loop in sym (l .inv .0 ∙ fill-end 0 _ (l .k) (l .out) (c .loop-test .left))
+returns c = let l = c .before .loop in sym (l .inv .0 ∙ fill-end 0 _ (l .k) (l .vars) (c .loop-test .left))
 
 pub cleared-spec : {M : Type 1} → statement M
 cleared-spec =
@@ -55,8 +54,8 @@ cleared-spec =
     cast-k
     last-place-requires
     loop-holds
-    mul-out
-    array-write-out
+    mul-vars
+    element-write-vars
     add-k
     loop-less
     loop-again

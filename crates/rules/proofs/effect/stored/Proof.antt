@@ -13,11 +13,11 @@ with-value-requires-2 c κs = search needs
 
 returns : tie.Need-returns
 unfolding stored
-returns c = rw (c .before .match .keys1, ← (c .with-value .ensures))
+returns c = rw (c .before .before .match .keys1, ← (c .with-value .ensures))
 
 returns-2 : tie.Need-returns-2
 unfolding stored
-returns-2 c = rw (c .before .match .keys2, ← (c .with-value2 .ensures))
+returns-2 c = rw (c .before .before .match .keys2, ← (c .with-value2 .ensures))
 
 returns-3 : tie.Need-returns-3
 unfolding stored

@@ -5,11 +5,11 @@ use Rattle.rules.specs.Effect.{withValue}
 use Rattle.rules.proofs.effect.with_value.Statement.{statement}
 use Rattle.rules.proofs.effect.with_value.Tie as tie
 
-mul-out : tie.Need-mul-out
-mul-out c = search needs
+mul-values : tie.Need-mul-values
+mul-values c = search needs
 
-array-write-out : tie.Need-array-write-out
-array-write-out c = search needs
+element-write-values : tie.Need-element-write-values
+element-write-values c = search needs
 
 returns : tie.Need-returns
 unfolding withValue
@@ -20,4 +20,4 @@ unfolding withValue
 returns-2 c = rw (le-ltb _ _ (c .if1 .left))
 
 pub with-value-spec : {M : Type 1} → statement M
-with-value-spec = tie.close (tie.spec mul-out array-write-out returns returns-2)
+with-value-spec = tie.close (tie.spec mul-values element-write-values returns returns-2)

@@ -11,11 +11,11 @@ place-of-requires c κs = search needs
 cast-i : tie.Need-cast-i
 cast-i c = search needs
 
-mul-out : tie.Need-mul-out
-mul-out c = search needs
+mul-vars : tie.Need-mul-vars
+mul-vars c = search needs
 
-array-write-out : tie.Need-array-write-out
-array-write-out c = search needs
+element-write-vars : tie.Need-element-write-vars
+element-write-vars c = search needs
 
 returns : tie.Need-returns
 unfolding withVar
@@ -27,4 +27,4 @@ returns-2 c = rw (← (c .before .place-of .ensures), le-ltb _ _ (c .if1 .left))
 
 pub with-var-spec : {M : Type 1} → statement M
 with-var-spec =
-    tie.close (tie.spec place-of-requires cast-i mul-out array-write-out returns returns-2)
+    tie.close (tie.spec place-of-requires cast-i mul-vars element-write-vars returns returns-2)

@@ -22,9 +22,9 @@ ended-both-requires c κs = search needs
 returns : tie.Need-returns
 unfolding handEvent
 returns c =
-    let p2 = c .before .before in let p3 = p2 .before in let p6 = p3 .before .before .before in
+    let p2 = c .before .before in let p3 = p2 .before in
     rw (
-      ← (p6 .slot-at .ensures),
+      ← (p3 .before .slot-at .ensures),
       ← (p3 .slot-at2 .ensures),
       ← (p2 .next-action .ensures),
       ← (c .before .deed-of .ensures),

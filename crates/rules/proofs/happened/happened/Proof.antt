@@ -1,6 +1,6 @@
 -- `rules::happened::happened` meets its contract: by the way that the code goes.
 use borrow.Author.Needs.{needs}
-use Rattle.rules.specs.Happened.{happenedOn}
+use Rattle.rules.specs.Happened.{handEvent, happenedOn}
 use Rattle.rules.proofs.happened.happened.Statement.{statement}
 use Rattle.rules.proofs.happened.happened.Tie as tie
 
@@ -54,7 +54,7 @@ returns-2 c =
     )
 
 returns-3 : tie.Need-returns-3
-unfolding happenedOn
+unfolding happenedOn handEvent
 returns-3 c =
     rw (
       ← (c .before .before .before .before .way-of .ensures),

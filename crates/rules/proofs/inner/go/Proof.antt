@@ -1,6 +1,8 @@
 -- `rules::inner::go` meets its contract: refused by the work, or event and configuration of the work's labels.
+use mathlib.Core.Path.{sym, _∙_}
 use borrow.Author.Needs.{needs}
 use Rattle.rules.specs.Step.{goOn}
+use Rattle.rules.proofs.Parts.{happened-lent}
 use Rattle.rules.proofs.inner.go.Statement.{statement}
 use Rattle.rules.proofs.inner.go.Tie as tie
 
@@ -34,8 +36,10 @@ returns c =
 returns-2 : tie.Need-returns-2
 unfolding goOn
 returns-2 c =
-    let p4 = c .before .before .before .before in let p6 = p4 .before .before in
-    rw (← (p6 .work .ensures), p4 .w2 .given .1, ← (c .before .happened .ensures), ← (c .made .ensures))
+    let p6 = c .before .before .before .before .before .before in let p8 = p6 .before .before in
+    let a = p8 .before .before .args in
+    let h = c .before .happened .ensures ∙ sym (happened-lent (a .s .frame) (a .actions .now) (a .lengths .now) (a .code) _) in
+    rw (← (p8 .work .ensures), p6 .w2 .given .1, ← h, ← (c .made .ensures))
 
 pub go-spec : {M : Type 1} → statement M
 go-spec =

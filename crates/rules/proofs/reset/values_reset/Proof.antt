@@ -13,12 +13,15 @@ use Rattle.rules.proofs.reset.values_reset.Statement.{statement}
 use Rattle.rules.proofs.reset.values_reset.Tie as tie
 
 abbrev Inv-loop : tie.InvT-loop
-Inv-loop locations m out₀ i₀ out i =
-    (valuesReset 0 1 out₀ locations m ≡ take i out ++ each2 (valueReset 0 1 m) (drop i out) (drop i locations))
-    × (length out ≡ 32) × (i ≤ 32)
+Inv-loop values₀ locations m i₀ values i =
+    (valuesReset 0 1 values₀ locations m ≡ take i values ++ each2 (valueReset 0 1 m) (drop i values) (drop i locations))
+    × (length values ≡ 32) × (i ≤ 32)
 
 abbrev μ-loop : tie.MeasureT-loop
-μ-loop locations m out₀ i₀ out i = 32 - i
+μ-loop values₀ locations m i₀ values i = 32 - i
+
+known-values-requires : tie.Need-known-values-requires Inv-loop μ-loop
+known-values-requires c κs = search needs
 
 loop-holds : tie.Need-loop-holds Inv-loop μ-loop
 unfolding valuesReset
@@ -27,23 +30,23 @@ loop-holds c = (refl, search needs, search needs)
 mul-value-reset : tie.Need-mul-value-reset Inv-loop μ-loop
 mul-value-reset c = search needs
 
-array-read-value-reset : tie.Need-array-read-value-reset Inv-loop μ-loop
-array-read-value-reset c = search needs
+element-copy-out-value-reset : tie.Need-element-copy-out-value-reset Inv-loop μ-loop
+element-copy-out-value-reset c = search needs
 
 mul-value-reset-2 : tie.Need-mul-value-reset-2 Inv-loop μ-loop
 mul-value-reset-2 c = search needs
 
-element-copy-out-value-reset : tie.Need-element-copy-out-value-reset Inv-loop μ-loop
-element-copy-out-value-reset c = search needs
+element-copy-out-value-reset-2 : tie.Need-element-copy-out-value-reset-2 Inv-loop μ-loop
+element-copy-out-value-reset-2 c = search needs
 
 value-reset-requires : tie.Need-value-reset-requires Inv-loop μ-loop
 value-reset-requires c κs = search needs
 
-mul-out : tie.Need-mul-out Inv-loop μ-loop
-mul-out c = search needs
+mul-values : tie.Need-mul-values Inv-loop μ-loop
+mul-values c = search needs
 
-array-write-out : tie.Need-array-write-out Inv-loop μ-loop
-array-write-out c = search needs
+element-write-values : tie.Need-element-write-values Inv-loop μ-loop
+element-write-values c = search needs
 
 add-i : tie.Need-add-i Inv-loop μ-loop
 add-i c = search needs
@@ -53,9 +56,9 @@ loop-less c = search needs
 
 loop-again : tie.Need-loop-again Inv-loop μ-loop
 loop-again c =
-    let a = c .before .before .before .before .args in
-    let l = c .before .before .before .loop in (
-      l .inv .0 ∙ each-more (valueReset 0 1 (a .m)) (l .out) (a .locations .now) (l .i) 0 (omega arith)
+    let a = c .before .before .before .before .before .before .before .args in
+    let l = c .before .before .before .before .loop in (
+      l .inv .0 ∙ each-more (valueReset 0 1 (a .m)) (l .values) (a .locations .now) (l .i) 0 (omega arith)
           ∙ rw (← (c .value-reset .ensures)),
       search needs,
       search needs,
@@ -63,9 +66,9 @@ loop-again c =
 
 returns : tie.Need-returns Inv-loop μ-loop
 returns c =
-    let a = c .before .before .args in
+    let a = c .before .before .before .before .args in
     let l = c .before .loop in
-    sym (l .inv .0 ∙ each-end (valueReset 0 1 (a .m)) (l .out) (a .locations .now) (l .i) (omega arith))
+    sym (l .inv .0 ∙ each-end (valueReset 0 1 (a .m)) (l .values) (a .locations .now) (l .i) (omega arith))
 
 pub values-reset-spec : {M : Type 1} → statement M
 values-reset-spec =
@@ -73,14 +76,15 @@ values-reset-spec =
     (tie.spec
     Inv-loop
     μ-loop
+    known-values-requires
     loop-holds
     mul-value-reset
-    array-read-value-reset
-    mul-value-reset-2
     element-copy-out-value-reset
+    mul-value-reset-2
+    element-copy-out-value-reset-2
     value-reset-requires
-    mul-out
-    array-write-out
+    mul-values
+    element-write-values
     add-i
     loop-less
     loop-again

@@ -1,48 +1,40 @@
 -- `rules::reset::vars_reset` meets its contract: the loop keeps that the whole is what stands already and what is
--- still to come. The measure is the variables left.
-use Prim.Native.Nat.{_-_, _≤_}
-use mathlib.Core.List.{_++_}
-use mathlib.Core.Path.{_≡_, refl, sym, _∙_}
+-- still to come. The measure is the slots left.
+use Prim.Native.Nat.{_-_, _*_, _≤_}
+use mathlib.Core.Path.{_≡_, refl, sym, ap, _∙_}
 use native.Mathlib.Omega.{arith}
-use lib.ListN.{length, take, drop}
+use lib.ListN.{length}
 use borrow.Author.Needs.{needs}
-use Rattle.rules.specs.Restart.{varReset, eachSlot, varsReset}
-use Rattle.rules.proofs.Loops.{slot-more, slot-end}
+use Rattle.rules.specs.Restart.{varReset, varsReset}
+use Rattle.rules.proofs.Loops.{slot-end, upTo, cleared-more, cleared-long}
 use Rattle.rules.proofs.reset.vars_reset.Statement.{statement}
 use Rattle.rules.proofs.reset.vars_reset.Tie as tie
 
 abbrev Inv-loop : tie.InvT-loop
-Inv-loop slots m out₀ i₀ out i =
-    (varsReset 0 out₀ slots m ≡ take i out ++ eachSlot (varReset 0 m) i (drop i out) slots)
-    × (length out ≡ 192) × (i ≤ 192)
+Inv-loop vars₀ slots m i₀ vars i =
+    (varsReset 0 vars₀ slots m ≡ upTo (varReset 0 m) slots vars (i * 16)) × (length vars ≡ 192) × (i ≤ 12)
 
 abbrev μ-loop : tie.MeasureT-loop
-μ-loop slots m out₀ i₀ out i = 192 - i
+μ-loop vars₀ slots m i₀ vars i = 12 - i
+
+known-vars-requires : tie.Need-known-vars-requires Inv-loop μ-loop
+known-vars-requires c κs = search needs
 
 loop-holds : tie.Need-loop-holds Inv-loop μ-loop
 unfolding varsReset
 loop-holds c = (refl, search needs, search needs)
 
-mul-var-reset : tie.Need-mul-var-reset Inv-loop μ-loop
-mul-var-reset c = search needs
+cast-slot-cleared : tie.Need-cast-slot-cleared Inv-loop μ-loop
+cast-slot-cleared c = search needs
 
-array-read-var-reset : tie.Need-array-read-var-reset Inv-loop μ-loop
-array-read-var-reset c = search needs
+mul-slot-cleared : tie.Need-mul-slot-cleared Inv-loop μ-loop
+mul-slot-cleared c = search needs
 
-mul-var-reset-2 : tie.Need-mul-var-reset-2 Inv-loop μ-loop
-mul-var-reset-2 c = search needs
+element-copy-out-slot-cleared : tie.Need-element-copy-out-slot-cleared Inv-loop μ-loop
+element-copy-out-slot-cleared c = search needs
 
-element-copy-out-var-reset : tie.Need-element-copy-out-var-reset Inv-loop μ-loop
-element-copy-out-var-reset c = search needs
-
-var-reset-requires : tie.Need-var-reset-requires Inv-loop μ-loop
-var-reset-requires c κs = search needs
-
-mul-out : tie.Need-mul-out Inv-loop μ-loop
-mul-out c = search needs
-
-array-write-out : tie.Need-array-write-out Inv-loop μ-loop
-array-write-out c = search needs
+slot-cleared-requires : tie.Need-slot-cleared-requires Inv-loop μ-loop
+slot-cleared-requires c κs = search needs
 
 add-i : tie.Need-add-i Inv-loop μ-loop
 add-i c = search needs
@@ -52,19 +44,19 @@ loop-less c = search needs
 
 loop-again : tie.Need-loop-again Inv-loop μ-loop
 loop-again c =
-    let a = c .before .before .before .before .args in
-    let l = c .before .before .before .loop in (
-      l .inv .0 ∙ slot-more (varReset 0 (a .m)) (l .out) (a .slots .now) (l .i) 0 (omega arith)
-          ∙ rw (← (c .var-reset .ensures)),
-      search needs,
+    let l = c .before .before .before .before .loop in
+    let a = c .before .before .before .before .before .before .before .args in (
+      l .inv .0 ∙ cleared-more 0 (a .m) (a .slots .now) (l .vars) (l .i) (omega arith) (l .inv .1)
+          ∙ rw (← (c .slot-cleared .ensures)),
+      ap length (c .slot-cleared .ensures) ∙ cleared-long 0 (a .m) (l .vars) (l .i) _ ∙ l .inv .1,
       search needs,
     )
 
 returns : tie.Need-returns Inv-loop μ-loop
 returns c =
-    let a = c .before .before .args in
     let l = c .before .loop in
-    sym (l .inv .0 ∙ slot-end (varReset 0 (a .m)) (l .out) (a .slots .now) (l .i) (omega arith))
+    let a = c .before .before .before .before .args in
+    sym (l .inv .0 ∙ slot-end (varReset 0 (a .m)) (l .vars) (a .slots .now) (l .i * 16) (omega arith))
 
 pub vars-reset-spec : {M : Type 1} → statement M
 vars-reset-spec =
@@ -72,14 +64,12 @@ vars-reset-spec =
     (tie.spec
     Inv-loop
     μ-loop
+    known-vars-requires
     loop-holds
-    mul-var-reset
-    array-read-var-reset
-    mul-var-reset-2
-    element-copy-out-var-reset
-    var-reset-requires
-    mul-out
-    array-write-out
+    cast-slot-cleared
+    mul-slot-cleared
+    element-copy-out-slot-cleared
+    slot-cleared-requires
     add-i
     loop-less
     loop-again

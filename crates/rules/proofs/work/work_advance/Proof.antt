@@ -36,11 +36,11 @@ returns : tie.Need-returns
 unfolding workAdvance
 returns c =
     let p3 = c .before .before .before in let p5 = p3 .before .before in let p6 = p5 .before in
-    let p10 = p6 .before .before .before .before in let p13 = p10 .before .before .before in let p14 = p13 .before in
+    let p8 = p6 .before .before in let p9 = p8 .before in
     rw (
-      ← (p14 .slot-at .ensures),
-      ← (p13 .next-action .ensures),
-      ← (p10 .value-at .ensures),
+      ← (p9 .before .slot-at .ensures),
+      ← (p9 .next-action .ensures),
+      ← (p8 .value-at .ensures),
       ← (p6 .place-of .ensures),
       ← (p5 .try-action .ensures),
       p3 .out .given .1,
@@ -51,11 +51,11 @@ returns-2 : tie.Need-returns-2
 unfolding workAdvance
 returns-2 c =
     let p3 = c .before .before .before in let p5 = p3 .before .before in let p6 = p5 .before in
-    let p10 = p6 .before .before .before .before in let p13 = p10 .before .before .before in let p14 = p13 .before in
+    let p8 = p6 .before .before in let p9 = p8 .before in
     rw (
-      ← (p14 .slot-at .ensures),
-      ← (p13 .next-action .ensures),
-      ← (p10 .value-at .ensures),
+      ← (p9 .before .slot-at .ensures),
+      ← (p9 .next-action .ensures),
+      ← (p8 .value-at .ensures),
       ← (p6 .place-of .ensures),
       ← (p5 .try-action .ensures),
       p3 .out2 .given .1,

@@ -87,6 +87,9 @@ returns-4 c =
       ← (c .refused-listing4 .ensures),
     )
 
+listed-in-requires : tie.Need-listed-in-requires
+listed-in-requires c κs = search needs
+
 walk-requires : tie.Need-walk-requires
 walk-requires c κs = search needs
 
@@ -99,21 +102,21 @@ same-length c = search needs
 returns-5 : tie.Need-returns-5
 unfolding listingOn
 returns-5 c =
-    let p5 = c .before .before .before .before .before in let p9 = p5 .before .before .before .before in
-    let p13 = p9 .before .before .before .before in let p18 = p13 .before .before .before .before .before in
-    let p19 = p18 .before in let p20 = p19 .before in let p21 = p20 .before in let p22 = p21 .before in
-    let p23 = p22 .before in
+    let p5 = c .before .before .before .before .before in let p8 = p5 .before .before .before in let p10 = p8 .before .before in
+    let p14 = p10 .before .before .before .before in let p19 = p14 .before .before .before .before .before in let p20 = p19 .before in
+    let p21 = p20 .before in let p22 = p21 .before in let p23 = p22 .before in let p24 = p23 .before in
     rw (
-      ← (p23 .sound-model .ensures),
-      not-false (p23 .sound-model .result) (p22 .if1 .left),
-      ← (p21 .bound-fits .ensures),
-      not-false (p21 .bound-fits .result) (p20 .if2 .left),
-      ← (p19 .in-bounds .ensures),
-      not-false (p19 .in-bounds .result) (p18 .if3 .left),
-      ← (p13 .enter .ensures),
+      ← (p24 .sound-model .ensures),
+      not-false (p24 .sound-model .result) (p23 .if1 .left),
+      ← (p22 .bound-fits .ensures),
+      not-false (p22 .bound-fits .result) (p21 .if2 .left),
+      ← (p20 .in-bounds .ensures),
+      not-false (p20 .in-bounds .result) (p19 .if3 .left),
+      ← (p14 .enter .ensures),
+      ← (p8 .listed-in .ensures),
       ← (p5 .walk .ensures),
       ← (c .spent .ensures),
-      not-false (p13 .enter .result .good) (p9 .if4 .left),
+      not-false (p14 .enter .result .good) (p10 .if4 .left),
     )
 
 pub listing-spec : {M : Type 1} → statement M
@@ -133,6 +136,7 @@ listing-spec =
     enter-requires
     refused-listing-requires-4
     returns-4
+    listed-in-requires
     walk-requires
     spent-requires
     same-length

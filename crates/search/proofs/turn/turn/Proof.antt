@@ -1,6 +1,8 @@
 -- `search::turn::turn` meets its contract: the definition's cases, in the code's order.
 use borrow.Author.Needs.{needs}
 use borrow.Author.Tests.{lt-ltb, le-ltb, le-leb, lt-leb, eq-eqb, ne-eqb}
+use Rattle.rules.proofs.Parts.{work-lent}
+use Rattle.search.specs.Rows.{controlFrom}
 use Rattle.search.specs.Turn.{turnOn}
 use Rattle.search.proofs.turn.turn.Statement.{statement}
 use Rattle.search.proofs.turn.turn.Tie as tie
@@ -13,10 +15,12 @@ still-requires c κs = search needs
 
 returns : tie.Need-returns
 unfolding turnOn
-returns c = rw (c .still .ensures, le-leb _ _ (c .before .before .if1 .taken), ← (c .before .closed .ensures))
+returns c =
+    let p1 = c .before in let p2 = p1 .before in
+    rw (c .still .ensures, le-leb _ _ (p2 .if1 .taken), ← (p1 .closed .ensures))
 
-seek-requires : tie.Need-seek-requires
-seek-requires c κs = search needs
+seek-lent-requires : tie.Need-seek-lent-requires
+seek-lent-requires c κs = search needs
 
 between-requires : tie.Need-between-requires
 between-requires c κs = search needs
@@ -36,17 +40,17 @@ still-requires-2 c κs = search needs
 returns-2 : tie.Need-returns-2
 unfolding turnOn
 returns-2 c =
-    let p2 = c .before .before in let p3 = p2 .before in let p4 = p3 .before in let p6 = p4 .before .before in
-    let p7 = p6 .before in let p9 = p7 .before .before in
+    let p1 = c .before in let p2 = p1 .before in let p3 = p2 .before in let p4 = p3 .before in let p6 = p4 .before .before in let p7 = p6 .before in
+    let p8 = p7 .before in
     rw (
       c .still2 .ensures,
-      lt-leb _ _ (p9 .if1 .left),
-      ← (p7 .seek .ensures),
+      lt-leb _ _ (p8 .if1 .left),
+      ← (p7 .seek-lent .ensures),
       ← (p6 .between .ensures),
       lt-ltb _ _ (p4 .if2 .taken),
       ← (p3 .reached .ensures),
       ← (p2 .at-code .ensures),
-      ← (c .before .closed2 .ensures),
+      ← (p1 .closed2 .ensures),
     )
 
 past-requires : tie.Need-past-requires
@@ -58,16 +62,15 @@ still-requires-3 c κs = search needs
 returns-3 : tie.Need-returns-3
 unfolding turnOn
 returns-3 c =
-    let p2 = c .before .before in let p3 = p2 .before in let p5 = p3 .before .before in let p6 = p5 .before in
-    let p8 = p6 .before .before in
+    let p1 = c .before in let p2 = p1 .before in let p3 = p2 .before in let p5 = p3 .before .before in let p6 = p5 .before in let p7 = p6 .before in
     rw (
       c .still3 .ensures,
-      lt-leb _ _ (p8 .if1 .left),
-      ← (p6 .seek .ensures),
+      lt-leb _ _ (p7 .if1 .left),
+      ← (p6 .seek-lent .ensures),
       ← (p5 .between .ensures),
       le-ltb _ _ (p3 .if2 .left),
       le-leb _ _ (p2 .if3 .taken),
-      ← (c .before .past .ensures),
+      ← (p1 .past .ensures),
     )
 
 at-code-requires-2 : tie.Need-at-code-requires-2
@@ -82,18 +85,18 @@ still-requires-4 c κs = search needs
 returns-4 : tie.Need-returns-4
 unfolding turnOn
 returns-4 c =
-    let p2 = c .before .before in let p3 = p2 .before in let p5 = p3 .before .before in let p6 = p5 .before in
-    let p8 = p6 .before .before in let p9 = p8 .before in let p11 = p9 .before .before in
+    let p1 = c .before in let p2 = p1 .before in let p3 = p2 .before in let p5 = p3 .before .before in let p6 = p5 .before in
+    let p8 = p6 .before .before in let p9 = p8 .before in let p10 = p9 .before in
     rw (
       c .still4 .ensures,
-      lt-leb _ _ (p11 .if1 .left),
-      ← (p9 .seek .ensures),
+      lt-leb _ _ (p10 .if1 .left),
+      ← (p9 .seek-lent .ensures),
       ← (p8 .between .ensures),
       le-ltb _ _ (p6 .if2 .left),
       lt-leb _ _ (p5 .if3 .left),
       eq-eqb _ _ (p3 .if4 .taken),
       ← (p2 .at-code2 .ensures),
-      ← (c .before .closed3 .ensures),
+      ← (p1 .closed3 .ensures),
     )
 
 cut-requires : tie.Need-cut-requires
@@ -108,8 +111,8 @@ add-past c = search needs
 past-requires-2 : tie.Need-past-requires-2
 past-requires-2 c κs = search needs
 
-work-requires : tie.Need-work-requires
-work-requires c κs = search needs
+work-lent-requires : tie.Need-work-lent-requires
+work-lent-requires c κs = search needs
 
 enum-known-r : tie.Need-enum-known-r
 enum-known-r c = search needs
@@ -123,26 +126,70 @@ still-requires-5 c κs = search needs
 enum-known-r-2 : tie.Need-enum-known-r-2
 enum-known-r-2 c = search needs
 
-happened-requires : tie.Need-happened-requires
-happened-requires c κs = search needs
+ended-by-requires : tie.Need-ended-by-requires
+ended-by-requires c κs = search needs
+
+cast-broken-by : tie.Need-cast-broken-by
+cast-broken-by c = search needs
+
+broken-by-requires : tie.Need-broken-by-requires
+broken-by-requires c κs = search needs
 
 pushed-requires : tie.Need-pushed-requires
 pushed-requires c κs = search needs
 
-permitted-requires : tie.Need-permitted-requires
-permitted-requires c κs = search needs
+found-requires : tie.Need-found-requires
+found-requires c κs = search needs
+
+still-requires-6 : tie.Need-still-requires-6
+still-requires-6 c κs = search needs
+
+same-length : tie.Need-same-length
+same-length c = search needs
 
 returns-5 : tie.Need-returns-5
 unfolding turnOn
 returns-5 c =
-    let p3 = c .before .before .before in let p5 = p3 .before .before in let p7 = p5 .before .before in
-    let p8 = p7 .before in let p9 = p8 .before in let p11 = p9 .before .before in let p13 = p11 .before .before in
-    let p14 = p13 .before in let p16 = p14 .before .before in let p17 = p16 .before in
-    let p19 = p17 .before .before in
+    let p3 = c .before .before .before in let p4 = p3 .before in let p6 = p4 .before .before in let p7 = p6 .before in let p9 = p7 .before .before in
+    let p11 = p9 .before .before in let p13 = p11 .before .before in let p15 = p13 .before .before in let p16 = p15 .before in
+    let p17 = p16 .before in let p19 = p17 .before .before in let p21 = p19 .before .before in let p22 = p21 .before in
+    let p24 = p22 .before .before in let p25 = p24 .before in let p26 = p25 .before in let p31 = p26 .before .before .before .before .before in
+    let a = p31 .args in
+    rw (
+      c .still6 .ensures,
+      lt-leb _ _ (p26 .if1 .left),
+      ← (p25 .seek-lent .ensures),
+      ← (p24 .between .ensures),
+      le-ltb _ _ (p22 .if2 .left),
+      lt-leb _ _ (p21 .if3 .left),
+      ne-eqb _ _ (p19 .if4 .left),
+      ← (p17 .cut .ensures),
+      ← (p16 .code-after .ensures .is),
+      ← (p15 .past2 .ensures),
+      work-lent _ (controlFrom (a .slots .now) (a .locks .now) (a .values .now) (a .vars .now) (a .c)) _ _,
+      ← (p13 .work-lent .ensures),
+      p11 .r2 .given .1,
+      ← (p9 .ended-by .ensures),
+      ← (p7 .broken-by .ensures),
+      p6 .if5 .taken,
+      ← (p4 .pushed .ensures),
+      ← (p3 .found .ensures),
+    )
+
+entering-requires : tie.Need-entering-requires
+entering-requires c κs = search needs
+
+returns-6 : tie.Need-returns-6
+unfolding turnOn
+returns-6 c =
+    let p1 = c .before in let p3 = p1 .before .before in let p5 = p3 .before .before in let p7 = p5 .before .before in let p8 = p7 .before in
+    let p9 = p8 .before in let p11 = p9 .before .before in let p13 = p11 .before .before in let p14 = p13 .before in let p16 = p14 .before .before in
+    let p17 = p16 .before in let p18 = p17 .before in let p23 = p18 .before .before .before .before .before in
+    let a = p23 .args in
     rw (
       c .still5 .ensures,
-      lt-leb _ _ (p19 .if1 .left),
-      ← (p17 .seek .ensures),
+      lt-leb _ _ (p18 .if1 .left),
+      ← (p17 .seek-lent .ensures),
       ← (p16 .between .ensures),
       le-ltb _ _ (p14 .if2 .left),
       lt-leb _ _ (p13 .if3 .left),
@@ -150,40 +197,37 @@ returns-5 c =
       ← (p9 .cut .ensures),
       ← (p8 .code-after .ensures .is),
       ← (p7 .past2 .ensures),
-      ← (p5 .work .ensures),
+      work-lent _ (controlFrom (a .slots .now) (a .locks .now) (a .values .now) (a .vars .now) (a .c)) _ _,
+      ← (p5 .work-lent .ensures),
       p3 .r .given .1,
-      ← (c .before .refused-by .ensures),
+      ← (p1 .refused-by .ensures),
     )
 
-same-length : tie.Need-same-length
-same-length c = search needs
-
-same-length-2 : tie.Need-same-length-2
-same-length-2 c = search needs
-
-returns-6 : tie.Need-returns-6
+returns-7 : tie.Need-returns-7
 unfolding turnOn
-returns-6 c =
-    let p4 = c .before .before .before .before in let p5 = p4 .before in let p8 = p5 .before .before .before in
-    let p10 = p8 .before .before in let p12 = p10 .before .before in let p14 = p12 .before .before in
-    let p15 = p14 .before in let p16 = p15 .before in let p18 = p16 .before .before in
-    let p20 = p18 .before .before in let p21 = p20 .before in let p23 = p21 .before .before in
-    let p24 = p23 .before in let p26 = p24 .before .before in
+returns-7 c =
+    let p1 = c .before in let p2 = p1 .before in let p4 = p2 .before .before in let p6 = p4 .before .before in let p8 = p6 .before .before in
+    let p10 = p8 .before .before in let p11 = p10 .before in let p12 = p11 .before in let p14 = p12 .before .before in
+    let p16 = p14 .before .before in let p17 = p16 .before in let p19 = p17 .before .before in let p20 = p19 .before in let p21 = p20 .before in
+    let p26 = p21 .before .before .before .before .before in
+    let a = p26 .args in
     rw (
-      lt-leb _ _ (p26 .if1 .left),
-      ← (p24 .seek .ensures),
-      ← (p23 .between .ensures),
-      le-ltb _ _ (p21 .if2 .left),
-      lt-leb _ _ (p20 .if3 .left),
-      ne-eqb _ _ (p18 .if4 .left),
-      ← (p16 .cut .ensures),
-      ← (p15 .code-after .ensures .is),
-      ← (p14 .past2 .ensures),
-      ← (p12 .work .ensures),
-      p10 .r2 .given .1,
-      ← (p8 .happened .ensures),
-      ← (p5 .pushed .ensures),
-      ← (p4 .permitted .ensures),
+      lt-leb _ _ (p21 .if1 .left),
+      ← (p20 .seek-lent .ensures),
+      ← (p19 .between .ensures),
+      le-ltb _ _ (p17 .if2 .left),
+      lt-leb _ _ (p16 .if3 .left),
+      ne-eqb _ _ (p14 .if4 .left),
+      ← (p12 .cut .ensures),
+      ← (p11 .code-after .ensures .is),
+      ← (p10 .past2 .ensures),
+      work-lent _ (controlFrom (a .slots .now) (a .locks .now) (a .values .now) (a .vars .now) (a .c)) _ _,
+      ← (p8 .work-lent .ensures),
+      p6 .r2 .given .1,
+      ← (p4 .ended-by .ensures),
+      ← (p2 .broken-by .ensures),
+      p1 .if5 .left,
+      ← (c .entering .ensures),
     )
 
 pub turn-spec : {M : Type 1} → statement M
@@ -193,7 +237,7 @@ turn-spec =
     closed-requires
     still-requires
     returns
-    seek-requires
+    seek-lent-requires
     between-requires
     reached-requires
     at-code-requires
@@ -211,15 +255,19 @@ turn-spec =
     code-after-requires
     add-past
     past-requires-2
-    work-requires
+    work-lent-requires
     enum-known-r
     refused-by-requires
     still-requires-5
     enum-known-r-2
-    happened-requires
+    ended-by-requires
+    cast-broken-by
+    broken-by-requires
     pushed-requires
-    permitted-requires
-    returns-5
+    found-requires
+    still-requires-6
     same-length
-    same-length-2
-    returns-6)
+    returns-5
+    entering-requires
+    returns-6
+    returns-7)

@@ -13,10 +13,13 @@ use Rattle.state.proofs.launch.locks_launched.Statement.{statement}
 use Rattle.state.proofs.launch.locks_launched.Tie as tie
 
 abbrev Inv-loop : tie.InvT-loop
-Inv-loop locations m serial out₀ i₀ out i = (locksLaunched out₀ locations m serial ≡ take i out ++ each2 (lockLaunched m serial) (drop i out) (drop i locations)) × (length out ≡ 32) × (i ≤ 32)
+Inv-loop locks₀ locations m serial i₀ locks i = (locksLaunched locks₀ locations m serial ≡ take i locks ++ each2 (lockLaunched m serial) (drop i locks) (drop i locations)) × (length locks ≡ 32) × (i ≤ 32)
 
 abbrev μ-loop : tie.MeasureT-loop
-μ-loop locations m serial out₀ i₀ out i = 32 - i
+μ-loop locks₀ locations m serial i₀ locks i = 32 - i
+
+known-locks-requires : tie.Need-known-locks-requires Inv-loop μ-loop
+known-locks-requires c κs = search needs
 
 loop-holds : tie.Need-loop-holds Inv-loop μ-loop
 unfolding locksLaunched
@@ -25,23 +28,23 @@ loop-holds c = (refl, search needs, search needs)
 mul-lock-launched : tie.Need-mul-lock-launched Inv-loop μ-loop
 mul-lock-launched c = search needs
 
-array-read-lock-launched : tie.Need-array-read-lock-launched Inv-loop μ-loop
-array-read-lock-launched c = search needs
+element-copy-out-lock-launched : tie.Need-element-copy-out-lock-launched Inv-loop μ-loop
+element-copy-out-lock-launched c = search needs
 
 mul-lock-launched-2 : tie.Need-mul-lock-launched-2 Inv-loop μ-loop
 mul-lock-launched-2 c = search needs
 
-element-copy-out-lock-launched : tie.Need-element-copy-out-lock-launched Inv-loop μ-loop
-element-copy-out-lock-launched c = search needs
+element-copy-out-lock-launched-2 : tie.Need-element-copy-out-lock-launched-2 Inv-loop μ-loop
+element-copy-out-lock-launched-2 c = search needs
 
 lock-launched-requires : tie.Need-lock-launched-requires Inv-loop μ-loop
 lock-launched-requires c κs = search needs
 
-mul-out : tie.Need-mul-out Inv-loop μ-loop
-mul-out c = search needs
+mul-locks : tie.Need-mul-locks Inv-loop μ-loop
+mul-locks c = search needs
 
-array-write-out : tie.Need-array-write-out Inv-loop μ-loop
-array-write-out c = search needs
+element-write-locks : tie.Need-element-write-locks Inv-loop μ-loop
+element-write-locks c = search needs
 
 add-i : tie.Need-add-i Inv-loop μ-loop
 add-i c = search needs
@@ -51,15 +54,15 @@ loop-less c = search needs
 
 loop-again : tie.Need-loop-again Inv-loop μ-loop
 loop-again c =
-    let a = c .before .before .before .before .args in
-    let l = c .before .before .before .loop in
-    (l .inv .0 ∙ each-more (lockLaunched a.m a.serial) (l .out) (a.locations .now) (l .i) 0 (omega arith) ∙ rw (← (c .lock-launched .ensures)), search needs, search needs)
+    let a = c .before .before .before .before .before .before .before .args in
+    let l = c .before .before .before .before .loop in
+    (l .inv .0 ∙ each-more (lockLaunched a.m a.serial) (l .locks) (a.locations .now) (l .i) 0 (omega arith) ∙ rw (← (c .lock-launched .ensures)), search needs, search needs)
 
 returns : tie.Need-returns Inv-loop μ-loop
 returns c =
-    let a = c .before .before .args in
+    let a = c .before .before .before .before .args in
     let l = c .before .loop in
-    sym (l .inv .0 ∙ each-end (lockLaunched a.m a.serial) (l .out) (a.locations .now) (l .i) (omega arith))
+    sym (l .inv .0 ∙ each-end (lockLaunched a.m a.serial) (l .locks) (a.locations .now) (l .i) (omega arith))
 
 pub locks-launched-spec : {M : Type 1} → statement M
 locks-launched-spec =
@@ -67,14 +70,15 @@ locks-launched-spec =
     (tie.spec
     Inv-loop
     μ-loop
+    known-locks-requires
     loop-holds
     mul-lock-launched
-    array-read-lock-launched
-    mul-lock-launched-2
     element-copy-out-lock-launched
+    mul-lock-launched-2
+    element-copy-out-lock-launched-2
     lock-launched-requires
-    mul-out
-    array-write-out
+    mul-locks
+    element-write-locks
     add-i
     loop-less
     loop-again

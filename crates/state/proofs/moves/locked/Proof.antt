@@ -16,11 +16,11 @@ with-lock-requires-2 c κs = search needs
 
 returns : tie.Need-returns
 unfolding locked
-returns c = rw (c .before .before .match .keys1, ← (c .before .held-by .ensures), ← (c .with-lock .ensures))
+returns c = rw (c .before .before .before .match .keys1, ← (c .before .held-by .ensures), ← (c .with-lock .ensures))
 
 returns-2 : tie.Need-returns-2
 unfolding locked
-returns-2 c = rw (c .before .match .keys2, ← (c .with-lock2 .ensures))
+returns-2 c = rw (c .before .before .match .keys2, ← (c .with-lock2 .ensures))
 
 returns-3 : tie.Need-returns-3
 unfolding locked

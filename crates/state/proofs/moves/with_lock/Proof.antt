@@ -5,11 +5,11 @@ use Rattle.state.specs.Moves.{withLock}
 use Rattle.state.proofs.moves.with_lock.Statement.{statement}
 use Rattle.state.proofs.moves.with_lock.Tie as tie
 
-mul-out : tie.Need-mul-out
-mul-out c = search needs
+mul-locks : tie.Need-mul-locks
+mul-locks c = search needs
 
-array-write-out : tie.Need-array-write-out
-array-write-out c = search needs
+element-write-locks : tie.Need-element-write-locks
+element-write-locks c = search needs
 
 returns : tie.Need-returns
 unfolding withLock
@@ -20,4 +20,4 @@ unfolding withLock
 returns-2 c = rw (le-ltb _ _ (c .if1 .left))
 
 pub with-lock-spec : {M : Type 1} → statement M
-with-lock-spec = tie.close (tie.spec mul-out array-write-out returns returns-2)
+with-lock-spec = tie.close (tie.spec mul-locks element-write-locks returns returns-2)

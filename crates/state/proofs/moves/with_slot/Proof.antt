@@ -5,11 +5,11 @@ use Rattle.state.specs.Moves.{withSlot}
 use Rattle.state.proofs.moves.with_slot.Statement.{statement}
 use Rattle.state.proofs.moves.with_slot.Tie as tie
 
-mul-out : tie.Need-mul-out
-mul-out c = search needs
+mul-slots : tie.Need-mul-slots
+mul-slots c = search needs
 
-array-write-out : tie.Need-array-write-out
-array-write-out c = search needs
+element-write-slots : tie.Need-element-write-slots
+element-write-slots c = search needs
 
 returns : tie.Need-returns
 unfolding withSlot
@@ -20,4 +20,4 @@ unfolding withSlot
 returns-2 c = rw (le-ltb _ _ (c .if1 .left))
 
 pub with-slot-spec : {M : Type 1} → statement M
-with-slot-spec = tie.close (tie.spec mul-out array-write-out returns returns-2)
+with-slot-spec = tie.close (tie.spec mul-slots element-write-slots returns returns-2)

@@ -12,10 +12,13 @@ use Rattle.state.proofs.reset.slots_reset.Statement.{statement}
 use Rattle.state.proofs.reset.slots_reset.Tie as tie
 
 abbrev Inv-loop : tie.InvT-loop
-Inv-loop m out₀ i₀ out i = (slotsReset out₀ m ≡ take i out ++ map (slotReset m) (drop i out)) × (length out ≡ 12) × (i ≤ 12)
+Inv-loop slots₀ m i₀ slots i = (slotsReset slots₀ m ≡ take i slots ++ map (slotReset m) (drop i slots)) × (length slots ≡ 12) × (i ≤ 12)
 
 abbrev μ-loop : tie.MeasureT-loop
-μ-loop m out₀ i₀ out i = 12 - i
+μ-loop slots₀ m i₀ slots i = 12 - i
+
+known-slots-requires : tie.Need-known-slots-requires Inv-loop μ-loop
+known-slots-requires c κs = search needs
 
 loop-holds : tie.Need-loop-holds Inv-loop μ-loop
 unfolding slotsReset
@@ -24,17 +27,17 @@ loop-holds c = (refl, search needs, search needs)
 mul-slot-reset : tie.Need-mul-slot-reset Inv-loop μ-loop
 mul-slot-reset c = search needs
 
-array-read-slot-reset : tie.Need-array-read-slot-reset Inv-loop μ-loop
-array-read-slot-reset c = search needs
+element-copy-out-slot-reset : tie.Need-element-copy-out-slot-reset Inv-loop μ-loop
+element-copy-out-slot-reset c = search needs
 
 slot-reset-requires : tie.Need-slot-reset-requires Inv-loop μ-loop
 slot-reset-requires c κs = search needs
 
-mul-out : tie.Need-mul-out Inv-loop μ-loop
-mul-out c = search needs
+mul-slots : tie.Need-mul-slots Inv-loop μ-loop
+mul-slots c = search needs
 
-array-write-out : tie.Need-array-write-out Inv-loop μ-loop
-array-write-out c = search needs
+element-write-slots : tie.Need-element-write-slots Inv-loop μ-loop
+element-write-slots c = search needs
 
 add-i : tie.Need-add-i Inv-loop μ-loop
 add-i c = search needs
@@ -44,15 +47,15 @@ loop-less c = search needs
 
 loop-again : tie.Need-loop-again Inv-loop μ-loop
 loop-again c =
-    let a = c .before .before .before .args in
-    let l = c .before .before .loop in
-    (l .inv .0 ∙ map-more (slotReset a.m) (l .out) (l .i) 0 (omega arith) ∙ rw (← (c .slot-reset .ensures)), search needs, search needs)
+    let a = c .before .before .before .before .before .before .args in
+    let l = c .before .before .before .loop in
+    (l .inv .0 ∙ map-more (slotReset a.m) (l .slots) (l .i) 0 (omega arith) ∙ rw (← (c .slot-reset .ensures)), search needs, search needs)
 
 returns : tie.Need-returns Inv-loop μ-loop
 returns c =
-    let a = c .before .before .args in
+    let a = c .before .before .before .before .args in
     let l = c .before .loop in
-    sym (l .inv .0 ∙ map-end (slotReset a.m) (l .out) (l .i) (omega arith))
+    sym (l .inv .0 ∙ map-end (slotReset a.m) (l .slots) (l .i) (omega arith))
 
 pub slots-reset-spec : {M : Type 1} → statement M
 slots-reset-spec =
@@ -60,12 +63,13 @@ slots-reset-spec =
     (tie.spec
     Inv-loop
     μ-loop
+    known-slots-requires
     loop-holds
     mul-slot-reset
-    array-read-slot-reset
+    element-copy-out-slot-reset
     slot-reset-requires
-    mul-out
-    array-write-out
+    mul-slots
+    element-write-slots
     add-i
     loop-less
     loop-again

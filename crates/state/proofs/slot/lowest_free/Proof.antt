@@ -17,6 +17,9 @@ Inv-loop slots i₀ i = (lowestFree slots ≡ lowestIn i (drop i slots)) × (len
 abbrev μ-loop : tie.MeasureT-loop
 μ-loop slots i₀ i = 12 - i
 
+known-slots-requires : tie.Need-known-slots-requires Inv-loop μ-loop
+known-slots-requires c κs = search needs
+
 loop-holds : tie.Need-loop-holds Inv-loop μ-loop
 unfolding lowestFree
 loop-holds c = (refl, search needs, search needs)
@@ -24,8 +27,8 @@ loop-holds c = (refl, search needs, search needs)
 mul-slot-in : tie.Need-mul-slot-in Inv-loop μ-loop
 mul-slot-in c = search needs
 
-array-read-slot-in : tie.Need-array-read-slot-in Inv-loop μ-loop
-array-read-slot-in c = search needs
+element-copy-out-slot-in : tie.Need-element-copy-out-slot-in Inv-loop μ-loop
+element-copy-out-slot-in c = search needs
 
 slot-in-requires : tie.Need-slot-in-requires Inv-loop μ-loop
 slot-in-requires c κs = search needs
@@ -35,7 +38,7 @@ cast-free c = search needs
 
 returns : tie.Need-returns Inv-loop μ-loop
 returns c =
-    let l = c .before .before .before .before .loop in
+    let l = c .before .before .before .before .before .loop in
     let s = c .before .before .slot-in in
     record {
       is = sym (l .inv .0 ∙ lowest-here _ (l .i) (omega arith) (rw (← (s .ensures)) (not-true (s .result .live) (c .if1 .taken))));
@@ -50,14 +53,14 @@ loop-less c = search needs
 
 loop-again : tie.Need-loop-again Inv-loop μ-loop
 loop-again c =
-    let l = c .before .before .before .before .loop in
+    let l = c .before .before .before .before .before .loop in
     let s = c .before .before .slot-in in
     (l .inv .0 ∙ lowest-on _ (l .i) (omega arith) (rw (← (s .ensures)) (not-false (s .result .live) (c .if1 .left))), search needs, search needs)
 
 returns-2 : tie.Need-returns-2 Inv-loop μ-loop
 returns-2 c =
     let l = c .before .loop in
-    let a = c .before .before .args .t1 in
+    let a = c .before .before .before .args .slots .now in
     record { is = omega (arith, l .inv .0, lowest-end a (l .i) (omega arith)); small = search needs }
 
 pub lowest-free-spec : {M : Type 1} → statement M
@@ -66,9 +69,10 @@ lowest-free-spec =
     (tie.spec
     Inv-loop
     μ-loop
+    known-slots-requires
     loop-holds
     mul-slot-in
-    array-read-slot-in
+    element-copy-out-slot-in
     slot-in-requires
     cast-free
     returns

@@ -12,6 +12,9 @@ returns : tie.Need-returns
 unfolding findTerm
 returns c = rw (← (c .before .before .grade-of .ensures), lt-ltb _ _ (c .if1 .taken))
 
+after-parts-requires : tie.Need-after-parts-requires
+after-parts-requires c κs = search needs
+
 pack-requires : tie.Need-pack-requires
 pack-requires c κs = search needs
 
@@ -21,14 +24,22 @@ find-line-requires c κs = search needs
 returns-2 : tie.Need-returns-2
 unfolding findTerm
 returns-2 c =
-    let p2 = c .before .before in let p4 = p2 .before .before in
+    let p2 = c .before .before in let p3 = p2 .before in let p5 = p3 .before .before in
     rw (
-      ← (p4 .grade-of .ensures),
-      le-ltb _ _ (p2 .if1 .left),
+      ← (p5 .grade-of .ensures),
+      le-ltb _ _ (p3 .if1 .left),
+      ← (p2 .after-parts .ensures),
       ← (c .before .pack .ensures),
       ← (c .find-line .ensures),
     )
 
 pub find-spec : {M : Type 1} → statement M
 find-spec =
-    tie.close (tie.spec grade-of-requires returns pack-requires find-line-requires returns-2)
+    tie.close
+    (tie.spec
+    grade-of-requires
+    returns
+    after-parts-requires
+    pack-requires
+    find-line-requires
+    returns-2)

@@ -1,5 +1,5 @@
--- `terms::table::find_line` meets its contract: the loop keeps that looking from the start gives what looking from
--- line i on gives. The measure is the lines left.
+-- `terms::table::find_line` meets its contract: the loop keeps that looking from the first label on gives what looking
+-- from line i on gives. The measure is the lines left.
 use Prim.Native.Nat.{_-_, _≤_}
 use mathlib.Core.Path.{_≡_, refl, _∙_, sym}
 use native.Mathlib.Omega.{arith}
@@ -11,10 +11,10 @@ use Rattle.terms.proofs.table.find_line.Statement.{statement}
 use Rattle.terms.proofs.table.find_line.Tie as tie
 
 abbrev Inv-loop : tie.InvT-loop
-Inv-loop t count n end i₀ i = (findLine t count n ≡ findIn i (drop i (take count t)) n) × (end ≡ length (take count t)) × (end ≤ 512)
+Inv-loop t from count n end i₀ i = (findLine t from count n ≡ findIn i (drop i (take count t)) n) × (end ≡ length (take count t)) × (end ≤ 512)
 
 abbrev μ-loop : tie.MeasureT-loop
-μ-loop t count n end i₀ i = end - i
+μ-loop t from count n end i₀ i = end - i
 
 known-requires : tie.Need-known-requires Inv-loop μ-loop
 known-requires c κs = search needs

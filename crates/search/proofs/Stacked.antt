@@ -1,0 +1,104 @@
+-- The configurations of all shorter schedules as they stand in rows, and one turn of the loops that spread them.
+use Prim.Native.Nat.{ℕ, zero, suc, _+_, _<_, _≤_}
+use mathlib.Core.List.{List, [], _∷_, _++_, map, append-nil, append-assoc}
+use mathlib.Core.Path.{_≡_, refl, sym, ap, _∙_}
+use native.Mathlib.Nat.{not-suc-le-zero, le-of-suc-le-suc}
+use native.Mathlib.Omega.{arith}
+use lib.ListN.{length, getD, take, drop, set, drop-of-length-le, length-map}
+use lib.Seq.{drop-cons, take-suc-set, take-all}
+use Rattle.state.specs.declared.control.Control.{Control}
+use Rattle.quiet.specs.Quiet.{deepest}
+use Rattle.search.specs.Rows.{controlFrom, noCounts, slotRows, lockRows, valueRows, varRows, countRows}
+use Rattle.search.specs.Enter.{noControl}
+use Rattle.search.specs.Search.{deepsOf}
+use Rattle.search.specs.declared.rows.Counts.{Counts}
+
+-- an array of configurations is as long as that of its numbers
+pub length-stack : {X Y : Type 0} (f : X → Y) (l : List X) (n : ℕ) → length (map f l) ≡ n → length l ≡ n
+length-stack f l n h = sym (length-map l f) ∙ h
+
+-- what is put already, and what is still to come
+module _ {A B : Type 0} (f : A → B) (d : A) (stack : List A) (rows : List B) (i : ℕ) where
+  pub rows-more : i < length rows → i < length stack
+      → take i rows ++ map f (drop i stack) ≡ take (i + 1) (set rows i (f (getD stack i d))) ++ map f (drop (i + 1) stack)
+  rows-more h g =
+      let a : i + 1 ≡ suc i = omega arith in
+      rw (drop-cons stack i d g, a, take-suc-set rows i (f (getD stack i d)) h, append-assoc)
+
+  pub rows-end : length rows ≤ i → length stack ≤ i → take i rows ++ map f (drop i stack) ≡ rows
+  rows-end h g = rw (take-all i rows h, drop-of-length-le stack g, append-nil)
+
+-- there are 25 of each
+pub record Long (ss ls vs xs : List (List ℕ)) (cs : List Counts) : Type 0 where
+  pub slots : length ss ≡ 25
+  pub locks : length ls ≡ 25
+  pub values : length vs ≡ 25
+  pub vars : length xs ≡ 25
+  pub counts : length cs ≡ 25
+
+-- the configurations that five lists of rows make up
+unfoldable pub stacked : List (List ℕ) → List (List ℕ) → List (List ℕ) → List (List ℕ) → List Counts → List Control
+stacked (s ∷ ss) (l ∷ ls) (v ∷ vs) (x ∷ xs) (c ∷ cs) = controlFrom s l v x c ∷ stacked ss ls vs xs cs
+stacked (s ∷ ss) (l ∷ ls) (v ∷ vs) (x ∷ xs) [] = []
+stacked (s ∷ ss) (l ∷ ls) (v ∷ vs) [] cs = []
+stacked (s ∷ ss) (l ∷ ls) [] xs cs = []
+stacked (s ∷ ss) [] vs xs cs = []
+stacked [] ls vs xs cs = []
+
+pub stacked-at : (i : ℕ) (ss ls vs xs : List (List ℕ)) (cs : List Counts)
+    → i < length ss → i < length ls → i < length vs → i < length xs → i < length cs
+    → getD (stacked ss ls vs xs cs) i noControl ≡ controlFrom (getD ss i []) (getD ls i []) (getD vs i []) (getD xs i []) (getD cs i noCounts)
+unfolding stacked
+stacked-at zero (s ∷ ss) (l ∷ ls) (v ∷ vs) (x ∷ xs) (c ∷ cs) h₁ h₂ h₃ h₄ h₅ = refl
+stacked-at (suc i) (s ∷ ss) (l ∷ ls) (v ∷ vs) (x ∷ xs) (c ∷ cs) h₁ h₂ h₃ h₄ h₅ =
+    stacked-at i ss ls vs xs cs (le-of-suc-le-suc h₁) (le-of-suc-le-suc h₂) (le-of-suc-le-suc h₃) (le-of-suc-le-suc h₄) (le-of-suc-le-suc h₅)
+stacked-at i (s ∷ ss) (l ∷ ls) (v ∷ vs) (x ∷ xs) [] h₁ h₂ h₃ h₄ h₅ = absurd (not-suc-le-zero h₅)
+stacked-at i (s ∷ ss) (l ∷ ls) (v ∷ vs) [] cs h₁ h₂ h₃ h₄ h₅ = absurd (not-suc-le-zero h₄)
+stacked-at i (s ∷ ss) (l ∷ ls) [] xs cs h₁ h₂ h₃ h₄ h₅ = absurd (not-suc-le-zero h₃)
+stacked-at i (s ∷ ss) [] vs xs cs h₁ h₂ h₃ h₄ h₅ = absurd (not-suc-le-zero h₂)
+stacked-at i [] ls vs xs cs h₁ h₂ h₃ h₄ h₅ = absurd (not-suc-le-zero h₁)
+
+module _ (s l v x : List ℕ) (c : Counts) where
+  pub stacked-set : (i : ℕ) (ss ls vs xs : List (List ℕ)) (cs : List Counts)
+      → set (stacked ss ls vs xs cs) i (controlFrom s l v x c) ≡ stacked (set ss i s) (set ls i l) (set vs i v) (set xs i x) (set cs i c)
+  unfolding stacked
+  stacked-set zero (p ∷ ss) (q ∷ ls) (r ∷ vs) (y ∷ xs) (d ∷ cs) = refl
+  stacked-set (suc i) (p ∷ ss) (q ∷ ls) (r ∷ vs) (y ∷ xs) (d ∷ cs) =
+      ap (λ (k : List Control). controlFrom p q r y d ∷ k) (stacked-set i ss ls vs xs cs)
+  stacked-set zero (p ∷ ss) (q ∷ ls) (r ∷ vs) (y ∷ xs) [] = refl
+  stacked-set (suc i) (p ∷ ss) (q ∷ ls) (r ∷ vs) (y ∷ xs) [] = refl
+  stacked-set zero (p ∷ ss) (q ∷ ls) (r ∷ vs) [] cs = refl
+  stacked-set (suc i) (p ∷ ss) (q ∷ ls) (r ∷ vs) [] cs = refl
+  stacked-set zero (p ∷ ss) (q ∷ ls) [] xs cs = refl
+  stacked-set (suc i) (p ∷ ss) (q ∷ ls) [] xs cs = refl
+  stacked-set zero (p ∷ ss) [] vs xs cs = refl
+  stacked-set (suc i) (p ∷ ss) [] vs xs cs = refl
+  stacked-set i [] ls vs xs cs = refl
+
+-- the depths of their deepest terms
+unfoldable pub depths : List Counts → List ℕ
+depths cs = map (λ (c : Counts). c .deep) cs
+
+pub depths-at : (i : ℕ) (cs : List Counts) → getD (depths cs) i 0 ≡ getD cs i noCounts .deep
+unfolding depths
+depths-at i [] = refl
+depths-at zero (c ∷ cs) = refl
+depths-at (suc i) (c ∷ cs) = depths-at i cs
+
+pub depths-set : (c : Counts) (i : ℕ) (cs : List Counts) → set (depths cs) i (c .deep) ≡ depths (set cs i c)
+unfolding depths
+depths-set c i [] = refl
+depths-set c zero (d ∷ cs) = refl
+depths-set c (suc i) (d ∷ cs) = ap (λ (k : List ℕ). d .deep ∷ k) (depths-set c i cs)
+
+-- configurations spread to rows
+pub stacked-rows : (t : List ℕ) (stack : List Control)
+    → stacked (slotRows stack) (lockRows stack) (valueRows stack) (varRows stack) (countRows t stack) ≡ stack
+unfolding stacked slotRows lockRows valueRows varRows countRows
+stacked-rows t [] = refl
+stacked-rows t (s ∷ ss) = ap (λ (k : List Control). s ∷ k) (stacked-rows t ss)
+
+pub depths-rows : (t : List ℕ) (stack : List Control) → depths (countRows t stack) ≡ deepsOf t stack
+unfolding depths countRows deepsOf
+depths-rows t [] = refl
+depths-rows t (s ∷ ss) = ap (λ (k : List ℕ). deepest t 0 0 (s .count) ∷ k) (depths-rows t ss)

@@ -1,0 +1,58 @@
+-- The record of an event as a struct, and what one event says of a claim: machine's definitions over flat records, a
+-- number at a time, with the number under its name.
+use Prim.Native.Nat.{ℕ, _+_, _%_}
+use mathlib.Core.Bool.{Bool, true, false}
+use mathlib.Core.List.{List}
+use lib.Dec.{eqb, leb}
+use Rattle.terms.specs.Base.{pick, also}
+use Rattle.model.specs.declared.records.Claim.{Claim}
+use Rattle.rules.specs.Event.{numberAt}
+use Rattle.machine.specs.Judge.{makingOp, pathAt}
+use Rattle.trace.specs.declared.event.Event.{Event}
+
+abbrev pub event : ℕ → ℕ → ℕ → ℕ → ℕ → ℕ → ℕ → ℕ → ℕ → ℕ → ℕ → ℕ → Event
+event op serial loc x y result program machine thread endings first second = record {
+  op = op;
+  serial = serial;
+  loc = loc;
+  x = x;
+  y = y;
+  result = result;
+  program = program;
+  machine = machine;
+  thread = thread;
+  endings = endings;
+  first = first;
+  second = second;
+}
+
+abbrev pub noEvent : Event
+noEvent = event 0 0 0 0 0 0 0 0 0 0 0 0
+
+-- record i of a flat table
+unfoldable pub eventAt : List ℕ → ℕ → Event
+eventAt l i =
+    event (numberAt l i 0) (numberAt l i 1) (numberAt l i 2) (numberAt l i 3) (numberAt l i 4) (numberAt l i 5)
+    (numberAt l i 6) (numberAt l i 7) (numberAt l i 8) (numberAt l i 9) (numberAt l i 10) (numberAt l i 11)
+
+-- the event has an accept of program v
+unfoldable pub acceptsIn : Event → ℕ → Bool
+acceptsIn e v =
+    pick (eqb (e .endings) 0) false
+    (pick (eqb (e .first) v) true
+    (pick (eqb (e .endings) 1) false
+    (eqb (e .second) v)))
+
+-- it makes a thread for the claim
+unfoldable pub makesIn : Event → Claim → Bool
+makesIn e c = also (eqb (e .op) (makingOp (c .kind))) (eqb (e .machine) (c .machine))
+
+-- how far along the path thread j is after it, k before it: a jump (19) to the next program of the path, to another (255:
+-- it has left the path), or no jump
+unfoldable pub followIn : Event → ℕ → Claim → ℕ → ℕ
+followIn e j c k =
+    pick (leb (c .length) k) k
+    (pick (eqb (e .op) 19)
+    (pick (eqb (e .serial) j)
+    (pick (eqb (e .program) (pathAt c k)) (k % 255 + 1) 255)
+    k) k)

@@ -1,0 +1,5 @@
+pub mod claim;
+pub mod event;
+pub mod judge;
+pub mod table;
+pub mod verdict;
