@@ -43,14 +43,11 @@ abbrev pub restOf : Control → Rest
 restOf s = rest (counters (s .frame .steps) (s .frame .serial) (s .frame .nonce)) (s .frame .locks) (s .values) (s .vars)
 
 -- the parts put together
+abbrev pub frameOf : List ℕ → List ℕ → Counters → Frame
+frameOf slots locks c = record { slots = slots; locks = locks; steps = c .steps; serial = c .serial; nonce = c .nonce }
+
 abbrev pub frameWith : List ℕ → Rest → Frame
-frameWith slots r = record {
-  slots = slots;
-  locks = r .locks;
-  steps = r .counters .steps;
-  serial = r .counters .serial;
-  nonce = r .counters .nonce;
-}
+frameWith slots r = frameOf slots (r .locks) (r .counters)
 
 abbrev pub controlWith : List ℕ → Rest → ℕ → Control
 controlWith slots r n = record { frame = frameWith slots r; values = r .values; vars = r .vars; count = n }

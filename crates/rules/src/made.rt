@@ -28,7 +28,7 @@ use state::slot::slot_at;
 ghost use mathlib.Core.Path.{_≡_};
 ghost use Rattle.terms.specs.Base.{held};
 ghost use Rattle.rules.specs.Made.{layout, controlAfter};
-ghost use Rattle.rules.specs.Parts.{rest, slotsAdvanced, slotsHanded, slotsMade, moved, started, restAdvanced, restHanded, restReset, restMade};
+ghost use Rattle.rules.specs.Parts.{counters, frameOf, rest, slotsAdvanced, slotsHanded, slotsMade, moved, started, restAdvanced, restHanded, restReset, restMade};
 
 // Steps made, next serial, next nonce.
 pub struct Counters {
@@ -53,11 +53,7 @@ pub fn made<'a>(
     let mut locks = f.locks;
     let mut values = s.values;
     let mut vars = s.vars;
-    let before = Counters {
-        steps: f.steps,
-        serial: f.serial,
-        nonce: f.nonce,
-    };
+    let before = counters_in(f);
     slots_made(
         &mut slots,
         actions,
@@ -80,18 +76,34 @@ pub fn made<'a>(
         code,
         l,
     );
-    let frame = Frame {
+    Control {
+        frame: frame_with(slots, locks, c),
+        values,
+        vars,
+        count: l.count,
+    }
+}
+
+// The counters of a frame, and a frame with other ones.
+fn counters_in(f: Frame) -> Counters
+    ensures { λ r. ⌜ r ≡ counters (f .steps) (f .serial) (f .nonce) ⌝ }
+{
+    Counters {
+        steps: f.steps,
+        serial: f.serial,
+        nonce: f.nonce,
+    }
+}
+
+fn frame_with(slots: [u64; 12], locks: [u32; 32], c: Counters) -> Frame
+    ensures { λ r. ⌜ r ≡ frameOf slots locks c ⌝ }
+{
+    Frame {
         slots,
         locks,
         steps: c.steps,
         serial: c.serial,
         nonce: c.nonce,
-    };
-    Control {
-        frame,
-        values,
-        vars,
-        count: l.count,
     }
 }
 

@@ -11,8 +11,7 @@ use state::control::Control;
 use state::control::value_at;
 use state::early::next_action;
 use state::slot::slot_at;
-use terms::line::line_at;
-use terms::line::term_in;
+use terms::line::term_at;
 use terms::subst::Taken;
 use terms::subst::take_operands;
 use terms::table::Outcome;
@@ -21,7 +20,6 @@ use terms::table::cut;
 use terms::term::Term;
 ghost use mathlib.Core.Path.{_≡_};
 ghost use Rattle.terms.specs.Base.{held};
-ghost use Rattle.terms.specs.Line.{termAt};
 ghost use Rattle.rules.specs.Work.{refusedBy, labelledBy, meetNew, meetWant, givenAt, tryAction, codeAt, workAdvance, noLabels, lentControl, workOn};
 
 // The labels of ground x, y and of the result, the program of a jump, and the terms then in the table.
@@ -197,13 +195,6 @@ fn given(t: &[u64; 512], x: u16, y: u16, value: u16, nonce: u16) -> Given
         value,
         nonce,
     }
-}
-
-// The term at a label.
-pub fn term_at(t: &[u64; 512], label: u16) -> Term
-    ensures { λ r. ⌜ r ≡ termAt (now (t .entry)) label ⌝ }
-{
-    term_in(line_at(t, label))
 }
 
 // A wanted label is kept, a wanted term is listed unless it is there.

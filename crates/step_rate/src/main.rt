@@ -44,13 +44,8 @@ fn thread(program: u8) -> u32 {
     })
 }
 
-// Label 3 and 4 are variables 0 and 1, label 5 their pair. Program 0 is new; program 1 is new, new, hash of the pair.
-fn model() -> Model {
-    let fresh = Table::fresh();
-    let mut lines = fresh.lines;
-    let one = entered(&mut lines, fresh.count, 6, 0, 0);
-    let two = entered(&mut lines, one, 6, 1, 0);
-    let count = entered(&mut lines, two, 9, 3, 4);
+// Program 0 is new, new; program 1 is new, new, hash of label 5, new.
+fn programs() -> [u64; 512] {
     let mut actions = [0u64; 512];
     actions[0] = action(18, 0);
     actions[1] = action(18, 0);
@@ -58,6 +53,17 @@ fn model() -> Model {
     actions[17] = action(18, 0);
     actions[18] = action(13, 5);
     actions[19] = action(18, 0);
+    actions
+}
+
+// Labels 3 and 4 are variables 0 and 1, label 5 their pair.
+fn model() -> Model {
+    let fresh = Table::fresh();
+    let mut lines = fresh.lines;
+    let one = entered(&mut lines, fresh.count, 6, 0, 0);
+    let two = entered(&mut lines, one, 6, 1, 0);
+    let count = entered(&mut lines, two, 9, 3, 4);
+    let actions = programs();
     let mut lengths = [0u8; 32];
     lengths[0] = 2;
     lengths[1] = 4;
