@@ -8,7 +8,7 @@ use native.Mathlib.Omega.{arith}
 use lib.ListN.{length, getD, set, replicate, length-set, length-replicate}
 use lib.Seq.{getD-set-same, getD-set-other}
 use lib.Dec.{ltb, eqb}
-use borrow.Author.Tests.{ltb-true, ltb-false, lt-ltb, eqb-true, eqb-false}
+use borrow.Author.Tests.{ltb-true, lt-ltb, eqb-true, eqb-false}
 use Rattle.terms.specs.Base.{pick}
 use Rattle.terms.specs.Term.{shapeOf, limitsBy, inLimits, partsBy, partsBelow}
 use Rattle.terms.specs.Line.{termAt}
@@ -17,18 +17,14 @@ use Rattle.terms.specs.Tree.{Tree, leaf, nought}
 use Rattle.terms.specs.Meaning.{buildBy, build, trees, treeOf, means}
 use Rattle.terms.specs.declared.term.Shape.{Shape}
 use Rattle.terms.specs.declared.term.Shape.the-variants.{Bare, Number, Variable, Sealed, Hashed, Applied, Joined, Unknown}
-use Rattle.terms.proofs.Meaning.{also-left, also-right, variable-six, other-six, tree-at}
+use Rattle.terms.proofs.Meaning.{also-left, also-right, variable-six, other-six, tree-at, pick-max}
 use Rattle.audit.specs.Tops.{topmost, higherOf, topAt, topBy, topOf, topsFrom, topsOf}
 
 higher-max : (m n : ℕ) → higherOf m n ≡ max m n
 unfolding higherOf
-higher-max m n = by (ltb m n) refl
-  where
-    by : (t : Bool) → ltb m n ≡ t → pick t n m ≡ max m n
-    by true e = let h = ltb-true m n e in omega arith
-    by false e = let h = ltb-false m n e in omega arith
+higher-max m n = pick-max m n
 
-leaf-top : (k a : ℕ) → (shapeOf k ≡ Variable → ⊥) → 0 ≡ topmost (leaf k a)
+pub leaf-top : (k a : ℕ) → (shapeOf k ≡ Variable → ⊥) → 0 ≡ topmost (leaf k a)
 unfolding topmost
 leaf-top k a f = rw (other-six k f)
 

@@ -7,12 +7,13 @@ use native.Mathlib.Omega.{arith}
 use lib.ListN.{length, getD, List·getD-eq-default}
 use lib.Dec.{ltb, leb, eqb}
 use borrow.Author.Tests.{ltb-true, ltb-false, leb-true, eqb-true, lt-ltb, le-ltb, le-leb, eq-eqb, ne-eqb}
-use Rattle.terms.specs.Base.{pick, also}
+use Rattle.terms.specs.Base.{also}
 use Rattle.terms.specs.Line.{lineAt, termIn, groundIn}
 use Rattle.terms.specs.Sound.{Sound, soundTest}
 use Rattle.terms.proofs.Meaning.{also-left, also-right, also-both, ground-right}
 use Rattle.terms.proofs.Check.{test-sound, sound-test}
 use Rattle.model.specs.declared.records.Model.{Model}
+use Rattle.model.proofs.Tests.{pick-yes, pick-no, pass-by}
 use Rattle.state.specs.Slot.{slotAt}
 use Rattle.state.specs.declared.slot.Slot.{Slot}
 use Rattle.audit.specs.Listed.{storedValue}
@@ -21,26 +22,15 @@ use Rattle.audit.specs.Configuration.{beginsWith, leafSound, leavesSound
 use Rattle.audit.proofs.Laws.{each-at, at-each}
 use Rattle.audit.specs.Whole.{SoundTerms, Stored, SoundValues, VarSound, SoundVars}
 
-pick-yes : (b p q : Bool) → b ≡ true → pick b p q ≡ true → p ≡ true
-pick-yes b p q h e = rw h at e
-
-pick-no : (b p q : Bool) → b ≡ false → pick b p q ≡ true → q ≡ true
-pick-no b p q h e = rw h at e
-
--- tests one way or the other, as the question asks
-pub pass-by : (b p q : Bool) → (b ≡ true → p ≡ true) → (b ≡ false → q ≡ true) → pick b p q ≡ true
-pass-by true p q f g = f refl
-pass-by false p q f g = g refl
-
 -- the label of a ground term
 module _ {l : List ℕ} {n : ℕ} (S : Sound l n) (long : length l ≡ 512) where
-  stored-right : (v : ℕ) → storedValue l n v ≡ true → Stored l n v
+  pub stored-right : (v : ℕ) → storedValue l n v ≡ true → Stored l n v
   unfolding storedValue
   stored-right v e =
       let b : v < n = ltb-true v n (also-left (ltb v n) (groundIn (lineAt l v)) e) in
       record { below = b; ground = sym (ground-right S long v b) ∙ also-right (ltb v n) (groundIn (lineAt l v)) e }
 
-  stored-pass : (v : ℕ) → Stored l n v → storedValue l n v ≡ true
+  pub stored-pass : (v : ℕ) → Stored l n v → storedValue l n v ≡ true
   unfolding storedValue
   stored-pass v s = also-both (lt-ltb v n (s .below)) (ground-right S long v (s .below) ∙ s .ground)
 

@@ -14,6 +14,7 @@ use Rattle.terms.specs.Line.{bitOf}
 use Rattle.terms.proofs.Meaning.{also-left, also-right, also-both}
 use Rattle.model.specs.Records.{threadIn}
 use Rattle.model.specs.declared.records.Model.{Model}
+use Rattle.model.proofs.Tests.{both-pass, pick-yes, pick-no}
 use Rattle.state.specs.Slot.{slotIn, packSlot, slotAt}
 use Rattle.state.specs.Lock.{lockIn, packLock}
 use Rattle.state.specs.Reset.{isOn}
@@ -26,15 +27,6 @@ use Rattle.state.proofs.Holds.{free-lock}
 use Rattle.audit.specs.Configuration.{countersSound, threadFits, slotSound, slotsSound, lockSound, locksSound, sameSerial, newSerial, serialsDiffer, liveCount, listedThere, listedCount, mostOf, machineFits, threadsFit, tableSound, varsSound, valuesSound, soundControl}
 use Rattle.audit.specs.Each.{countFrom}
 use Rattle.audit.proofs.Laws.{each-at}
-
-both-pass : (p q : Bool) → also p q ≡ true → (p ≡ true) × (q ≡ true)
-both-pass p q e = (also-left p q e, also-right p q e)
-
-pick-yes : (b p q : Bool) → b ≡ true → pick b p q ≡ true → p ≡ true
-pick-yes b p q h e = rw h at e
-
-pick-no : (b p q : Bool) → b ≡ false → pick b p q ≡ true → q ≡ true
-pick-no b p q h e = rw h at e
 
 module _ (m : Model) (next : ℕ) where
   thread-right : (s : Slot) → threadFits s next (m .lengths) (m .programs) (m .«machine_count») ≡ true → ThreadSound m next s

@@ -12,18 +12,20 @@ use Rattle.terms.specs.Base.{pick, also}
 use Rattle.terms.proofs.Meaning.{also-left, also-right, also-both}
 use Rattle.model.specs.Records.{lengthAt}
 use Rattle.model.specs.declared.records.Model.{Model}
+use Rattle.model.proofs.Tests.{pass-by}
 use Rattle.state.specs.Slot.{slotIn, packSlot, slotAt}
 use Rattle.state.specs.Lock.{lockIn, packLock}
 use Rattle.state.specs.FrameSound.{liveOn, listedOn, mostOn, ThreadSound, SlotSound, SlotsSound, LockSound, FrameSound, Grounds}
 use Rattle.state.specs.declared.slot.Slot.{Slot}
 use Rattle.state.specs.declared.control.Frame.{Frame}
 use Rattle.state.specs.declared.control.Control.{Control}
+use Rattle.state.proofs.Frame.{slot-there}
 use Rattle.audit.specs.Sound.{SoundModel}
 use Rattle.audit.specs.Configuration.{tableSound, countersSound, threadFits, slotSound, slotsSound, sameSerial, newSerial, serialsDiffer, varsSound, lockSound, locksSound, valuesSound, liveCount, listedCount, mostOf, machineFits, threadsFit, soundControl}
 use Rattle.audit.proofs.Laws.{at-each}
 use Rattle.audit.proofs.Standing.{live-right, listed-right, control-right}
 use Rattle.audit.specs.Whole.{Arrays, Lengths, SoundConfig}
-use Rattle.audit.proofs.Parts.{pass-by, terms-right, terms-pass, values-right, values-pass, vars-right, vars-pass}
+use Rattle.audit.proofs.Parts.{terms-right, terms-pass, values-right, values-pass, vars-right, vars-pass}
 
 -- what the frame's theorems ask of a model, a sound one gives
 module _ {m : Model} (M : SoundModel m) (A : Arrays m) where
@@ -78,10 +80,6 @@ module _ (m : Model) (next : ℕ) where
   locks-pass l f = at-each 32 _ (λ i h. lock-pass i (getD l i 0) (f i))
 
 -- "live ones different"
-slot-there : (l : List ℕ) (i : ℕ) → i < 12 → slotAt l i ≡ slotIn (getD l i 0)
-unfolding slotAt
-slot-there l i h = rw (lt-ltb i 12 h)
-
 other-by : (b : Bool) → (b ≡ true → ⊥) → not b ≡ true
 other-by true f = absurd (f refl)
 other-by false f = refl

@@ -15,7 +15,7 @@ use model::records::location_at;
 use model::records::pack_action;
 use terms::term::both;
 ghost use mathlib.Core.Path.{_≡_};
-ghost use Rattle.audit.specs.Programs.{programsSound, eachProgram, programSound, lengthFits, actionsSound, numberOf, actionSound, actionFits, lastIfClosing, locFits, listedAndFits, operandFits, programsDiffer, newProgram, equalPrograms, equalActions};
+ghost use Rattle.audit.specs.Programs.{programsSound, eachProgram, lengthFits, actionsSound, numberOf, actionSound, actionFits, lastIfClosing, locFits, listedAndFits, operandFits, programsDiffer, newProgram, equalPrograms, equalActions};
 
 pub fn programs_sound(m: Model) -> bool
     ensures { λ r. ⌜ r ≡ programsSound m ⌝ }

@@ -6,12 +6,9 @@ use mathlib.Core.List.{List, [], _∷_, _++_}
 use mathlib.Core.Path.{_≡_, refl, sym, ap, _∙_}
 use native.Mathlib.Omega.{arith}
 use lib.ListN.{length, getD, replicate}
-use Rattle.terms.specs.Term.{term, shapeOf, afterParts}
-use Rattle.terms.specs.Line.{packed, termIn, depthIn, groundIn}
-use Rattle.terms.specs.Grade.{gradeOf, aboveLine, aboveBoth, deeperOf}
-use Rattle.terms.specs.Table.{fixedLine, freshTable, addTo, findIn, findLine, freeOf}
+use Rattle.terms.specs.Term.{term}
+use Rattle.terms.specs.Table.{freshTable}
 use Rattle.terms.specs.Tree.{leaf, sinit, seq}
-use Rattle.terms.specs.Meaning.{build, treesFrom, trees, treeOf}
 use Rattle.terms.specs.declared.table.Outcome.the-variants.{Listed, New}
 use Rattle.audit.specs.Models.{soundModel}
 use Rattle.audit.proofs.Bare.{bare-sound}
@@ -23,6 +20,7 @@ use Rattle.search.specs.Shown.{Arrays}
 use Rattle.search.proofs.Promises.{same-tries}
 use Rattle.facts.specs.Models.{bare, extends, unlocks, hashes, chains}
 use Rattle.facts.specs.Said.{answersTo, outcomesFrom, outcomes, addedAll, meaning, Lists}
+use Rattle.facts.proofs.Opened.{adding-open, trees-open}
 use Rattle.facts.proofs.Steps.{schedules, answers, steps-answered}
 use Rattle.facts.proofs.Public.{extends-same, unlocks-same, hashes-same}
 use Rattle.facts.proofs.Bare.{Tally, tally, tallyOf, bareTries, rules-one, rules-three, rules-four}
@@ -91,19 +89,19 @@ bare-four = counted-lists bare arrays sound 4 refl (omega arith) (omega arith) _
 -- Terms, by computation
 
 pairs : outcomes (term 9 0 1 ∷ term 9 1 0 ∷ term 9 0 1 ∷ term 9 1 0 ∷ []) ≡ New 3 ∷ New 4 ∷ Listed 3 ∷ Listed 4 ∷ []
-unfolding outcomes outcomesFrom addTo afterParts gradeOf shapeOf aboveBoth aboveLine deeperOf packed depthIn groundIn findLine findIn freshTable fixedLine freeOf
+unfolding outcomes outcomesFrom adding-open
 pairs = refl
 
 six-labels : outcomes chains ≡ New 3 ∷ New 4 ∷ New 5 ∷ New 6 ∷ New 7 ∷ New 8 ∷ []
-unfolding outcomes outcomesFrom addTo afterParts gradeOf shapeOf aboveBoth aboveLine deeperOf packed depthIn groundIn findLine findIn freshTable fixedLine freeOf
+unfolding outcomes outcomesFrom adding-open
 six-labels = refl
 
 five-six : meaning chains 6 ≡ seq sinit (leaf 0 5 ∷ leaf 0 6 ∷ [])
-unfolding meaning addedAll treeOf trees treesFrom build seq addTo afterParts gradeOf shapeOf aboveBoth aboveLine deeperOf packed termIn depthIn groundIn findLine findIn freshTable fixedLine freeOf
+unfolding meaning addedAll seq trees-open adding-open
 five-six = refl
 
 six-five : meaning chains 8 ≡ seq sinit (leaf 0 6 ∷ leaf 0 5 ∷ [])
-unfolding meaning addedAll treeOf trees treesFrom build seq addTo afterParts gradeOf shapeOf aboveBoth aboveLine deeperOf packed termIn depthIn groundIn findLine findIn freshTable fixedLine freeOf
+unfolding meaning addedAll seq trees-open adding-open
 six-five = refl
 
 seqs-differ : seq sinit (leaf 0 5 ∷ leaf 0 6 ∷ []) ≡ seq sinit (leaf 0 6 ∷ leaf 0 5 ∷ []) → ⊥

@@ -20,7 +20,7 @@ use Rattle.walk.proofs.Lists.{bad-append}
 use Rattle.walk.proofs.Array.{length-stack}
 use Rattle.walk.proofs.Placed.{whole}
 use Rattle.walk.proofs.Gather.{Counted}
-use Rattle.walk.proofs.List.{listSeen, list-passes}
+use Rattle.walk.proofs.ListPasses.{listSeen, list-passes}
 use Rattle.search.specs.Labels.{labels}
 use Rattle.search.specs.Place.{startPlace}
 use Rattle.search.specs.Answer.{listed, roomFor}

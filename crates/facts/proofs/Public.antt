@@ -6,20 +6,18 @@ use mathlib.Core.Bool.{true}
 use mathlib.Core.List.{List, [], _∷_}
 use Rattle.terms.specs.Base.{also, Held}
 use Rattle.terms.proofs.Meaning.{also-left, also-right, also-both}
-use Rattle.model.specs.Records.{packAction, actionIn, packMachine, machineIn, packLocation, locationIn, packThread, threadIn, lengthAt, locationAt}
 use Rattle.model.specs.Fields.{locOf, usesX, usesY, closing, locInForm, unusedZero, inForm, isMemory, isRegister, kindFits}
 use Rattle.model.specs.declared.records.Model.{Model}
-use Rattle.terms.specs.Term.{shapeOf, inLimits, partsBelow}
-use Rattle.terms.specs.Line.{packed, termIn, depthIn, groundIn}
-use Rattle.terms.specs.Grade.{deeperOf, aboveLine, aboveBoth, gradeOf}
-use Rattle.terms.specs.Table.{fixedLine, freshTable, findIn, findLine}
+use Rattle.terms.specs.Term.{inLimits, partsBelow}
+use Rattle.terms.specs.Table.{freshTable}
 use Rattle.terms.specs.Sound.{fixedFirst, lineSound, linesFrom, allZero, soundTest}
 use Rattle.state.specs.Control.{freshControl}
 use Rattle.state.specs.declared.control.Control.{Control}
 use Rattle.rules.specs.declared.inner.Stepped.{Stepped}
 use Rattle.audit.specs.Each.{allFrom}
 use Rattle.audit.specs.Tops.{higherOf, topAt, topOf, topsFrom, topsOf}
-use Rattle.audit.specs.Programs.{listedAndFits, locFits, operandFits, actionFits, lastIfClosing, actionSound, numberOf, actionsSound, lengthFits, programSound, eachProgram, equalActions, equalPrograms, newProgram, programsDiffer, programsSound}
+use Rattle.audit.specs.Programs.{listedAndFits, locFits, operandFits, actionFits, lastIfClosing, actionSound, numberOf, actionsSound}
+use Rattle.audit.specs.Programs.{lengthFits, programSound, eachProgram, equalActions, equalPrograms, newProgram, programsDiffer, programsSound}
 use Rattle.audit.specs.Listed.{machineSound, machinesSound, storedValue, firstFits, locationSound, eachLocation, locationsSound, threadSound, threadsSound}
 use Rattle.audit.specs.Claims.{pathProgram, pathSound, claimSound}
 use Rattle.audit.specs.Models.{namesProgram, mayBeListed, termsListed, soundModel}
@@ -33,6 +31,7 @@ use Rattle.machine.specs.Step.{stepChecked, innerStep}
 use Rattle.machine.proofs.Checked.{inner-agrees}
 use Rattle.facts.specs.Models.{keys, fullTable, extends, unlocks, hashes}
 use Rattle.facts.specs.Said.{replyNumber, answersAfter, answersFrom, answersTo}
+use Rattle.facts.proofs.Opened.{adding-open, records-open}
 use Rattle.facts.proofs.Steps.{innerFrom, innerTo}
 
 module _ (m : Model) (M : SoundModel m) (A : Arrays m) where
@@ -51,9 +50,38 @@ module _ (m : Model) (M : SoundModel m) (A : Arrays m) where
   unfolding answersTo innerTo
   same-answers ks = all-same ks (m .lines) (freshControl m) (fresh-passes M A)
 
+-- what the test of a model opens
+unfoldable table-open : Unit {0}
+unfolding soundTest allZero linesFrom lineSound fixedFirst partsBelow inLimits
+table-open = tt
+
+unfoldable forms-open : Unit {0}
+unfolding kindFits isRegister isMemory inForm unusedZero locInForm closing usesY usesX locOf
+forms-open = tt
+
+unfoldable same-open : Unit {0}
+unfolding programsDiffer newProgram equalPrograms equalActions
+same-open = tt
+
+unfoldable actions-open : Unit {0}
+unfolding actionsSound numberOf actionSound lastIfClosing actionFits operandFits locFits listedAndFits
+actions-open = tt
+
+unfoldable programs-open : Unit {0}
+unfolding same-open actions-open programsSound eachProgram programSound lengthFits
+programs-open = tt
+
+unfoldable listed-open : Unit {0}
+unfolding threadsSound threadSound locationsSound eachLocation locationSound firstFits storedValue machinesSound machineSound
+listed-open = tt
+
+unfoldable models-open : Unit {0}
+unfolding termsListed mayBeListed namesProgram claimSound pathSound pathProgram topsOf topsFrom topOf topAt higherOf allFrom
+models-open = tt
+
 -- the three models are sound, by the test itself
 models-sound : also (soundModel extends) (also (soundModel unlocks) (soundModel hashes)) ≡ true
-unfolding extends unlocks hashes fullTable keys soundModel termsListed mayBeListed namesProgram claimSound pathSound pathProgram threadsSound threadSound locationsSound eachLocation locationSound firstFits storedValue machinesSound machineSound programsSound programsDiffer newProgram equalPrograms equalActions eachProgram programSound lengthFits actionsSound numberOf actionSound lastIfClosing actionFits operandFits locFits listedAndFits topsOf topsFrom topOf topAt higherOf allFrom kindFits isRegister isMemory inForm unusedZero locInForm closing usesY usesX locOf locationAt lengthAt threadIn packThread locationIn packLocation machineIn packMachine actionIn packAction soundTest allZero linesFrom lineSound fixedFirst findLine findIn freshTable fixedLine gradeOf aboveBoth aboveLine deeperOf groundIn depthIn termIn packed partsBelow inLimits shapeOf
+unfolding extends unlocks hashes fullTable keys soundModel models-open listed-open programs-open forms-open records-open table-open adding-open
 models-sound = refl
 
 -- what the types of their arrays say

@@ -16,9 +16,9 @@ use Rattle.terms.specs.Tree.{Tree, leaf, sealed, applied, joined, nought, same,
 use Rattle.terms.specs.Meaning.{build, trees, treeOf, means, Den}
 use Rattle.terms.specs.Promise.{Fit}
 use Rattle.terms.specs.declared.term.Term.{Term}
-use Rattle.terms.specs.declared.term.Shape.the-variants.{Number, Sealed, Joined}
+use Rattle.terms.specs.declared.term.Shape.the-variants.{Number, Sealed}
 use Rattle.terms.proofs.Pack.{term-small}
-use Rattle.terms.proofs.Meaning.{den-nought}
+use Rattle.terms.proofs.Growth.{den-nought}
 use Rattle.terms.proofs.Depth.{den-enters}
 use Rattle.model.specs.declared.records.Action.{Action}
 use Rattle.rules.specs.Want.{sealedBy, openedBy, firstHalf, secondHalf, matchedOf, codeNeeded, wantOf}
@@ -27,7 +27,7 @@ use Rattle.rules.specs.declared.want.Want.{Want}
 use Rattle.rules.specs.declared.want.Want.the-variants.{Refuse, Keep, Make}
 use Rattle.law.specs.Out.{Out, ok, refuse}
 use Rattle.law.specs.Act.{numOf, firstOf, secondOf, sealing, opening, needs, isA, result}
-use Rattle.law.proofs.Denote.{den-kind, den-number, den-key, den-inside, den-first, den-second, den-same}
+use Rattle.law.proofs.Denote.{pair-shape, den-kind, den-number, den-key, den-inside, den-first, den-second, den-same}
 
 -- a want beside what the rules yield
 pub data Asks (l : List ℕ) (c : ℕ) : Want → Out Tree → Type 0 where
@@ -145,17 +145,13 @@ module _ {l : List ℕ} {c : ℕ} (sound : Sound l c) (long : length l ≡ 512) 
         asks-fit (eqb (termAt l x .b) (termAt l y .a)) (eqb (numOf tx) (numOf ty)) r
         (λ u. keeps (den-inside sound long dx p))))
 
-    pair-shape : eqb (termAt l x .kind) 9 ≡ true → shapeOf (termAt l x .kind) ≡ Joined
-    unfolding shapeOf
-    pair-shape s = ap shapeOf (eqb-true (termAt l x .kind) 9 s)
-
     first-part : Asks l c (firstHalf (givenAt l x y v n)) (needs (isA 9 tx) (ok (firstOf tx)))
     unfolding firstHalf givenAt
-    first-part = asks-fit (eqb (termAt l x .kind) 9) (isA 9 tx) (kind-test 9 dx) (λ s. keeps (den-first sound long dx (pair-shape s)))
+    first-part = asks-fit (eqb (termAt l x .kind) 9) (isA 9 tx) (kind-test 9 dx) (λ s. keeps (den-first sound long dx (pair-shape (termAt l x .kind) s)))
 
     second-part : Asks l c (secondHalf (givenAt l x y v n)) (needs (isA 9 tx) (ok (secondOf tx)))
     unfolding secondHalf givenAt
-    second-part = asks-fit (eqb (termAt l x .kind) 9) (isA 9 tx) (kind-test 9 dx) (λ s. keeps (den-second sound long dx (pair-shape s)))
+    second-part = asks-fit (eqb (termAt l x .kind) 9) (isA 9 tx) (kind-test 9 dx) (λ s. keeps (den-second sound long dx (pair-shape (termAt l x .kind) s)))
 
     zero : Den l c 0 nought
     zero = den-nought sound long

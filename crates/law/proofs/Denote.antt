@@ -6,40 +6,29 @@ use mathlib.Core.List.{List}
 use native.Mathlib.Omega.{arith}
 use lib.ListN.{length, getD}
 use lib.Dec.{eqb}
-use borrow.Author.Tests.{eq-eqb, ne-eqb}
+use borrow.Author.Tests.{eqb-true, eq-eqb, ne-eqb}
 use Rattle.terms.specs.Term.{shapeOf, partsBelow}
 use Rattle.terms.specs.Line.{termAt}
 use Rattle.terms.specs.Sound.{Sound}
-use Rattle.terms.specs.Tree.{Tree, leaf, nought, same}
-use Rattle.terms.specs.Meaning.{buildBy, build, trees, treeOf, means, Den}
+use Rattle.terms.specs.Tree.{Tree, leaf, nought, kindOf, same}
+use Rattle.terms.specs.Meaning.{build, trees, treeOf, Den}
 use Rattle.terms.specs.declared.term.Term.{Term}
-use Rattle.terms.specs.declared.term.Shape.{Shape}
-use Rattle.terms.specs.declared.term.Shape.the-variants.{Bare, Number, Variable, Sealed, Hashed, Applied, Joined, Unknown}
-use Rattle.terms.proofs.Meaning.{tree-at, part-sealed, part-first, part-second, parts-more, same-eq, same-true, den-one}
-use Rattle.law.specs.Act.{kindOf, numOf, firstOf, secondOf}
-
-kind-by : (s : Shape) (k a b : ℕ) (ts : List Tree) → kindOf (buildBy s k a b ts) ≡ k
-unfolding kindOf
-kind-by Bare k a b ts = refl
-kind-by Number k a b ts = refl
-kind-by Variable k a b ts = refl
-kind-by Sealed k a b ts = refl
-kind-by Hashed k a b ts = refl
-kind-by Applied k a b ts = refl
-kind-by Joined k a b ts = refl
-kind-by Unknown k a b ts = refl
-
-kind-build : (x : Term) (ts : List Tree) → kindOf (build x ts) ≡ x .kind
-unfolding build
-kind-build x ts = kind-by (shapeOf (x .kind)) (x .kind) (x .a) (x .b) ts
+use Rattle.terms.specs.declared.term.Shape.the-variants.{Number, Sealed, Joined}
+use Rattle.terms.proofs.Meaning.{part-sealed, part-first, part-second, parts-more}
+use Rattle.terms.proofs.Labels.{kind-build, tree-is, same-eq, same-true, den-one}
+use Rattle.law.specs.Act.{numOf, firstOf, secondOf}
 
 num-leaf : (x : Term) (ts : List Tree) → shapeOf (x .kind) ≡ Number → numOf (build x ts) ≡ x .a
 unfolding build numOf
 num-leaf x ts e = rw e
 
-leaf-build : (x : Term) (ts : List Tree) → shapeOf (x .kind) ≡ Number → build x ts ≡ leaf (x .kind) (x .a)
+pub leaf-build : (x : Term) (ts : List Tree) → shapeOf (x .kind) ≡ Number → build x ts ≡ leaf (x .kind) (x .a)
 unfolding build
 leaf-build x ts e = rw e
+
+pub pair-shape : (k : ℕ) → eqb k 9 ≡ true → shapeOf k ≡ Joined
+unfolding shapeOf
+pair-shape k h = ap shapeOf (eqb-true k 9 h)
 
 num-sealed : (x : Term) (ts : List Tree) → shapeOf (x .kind) ≡ Sealed → numOf (build x ts) ≡ x .b
 unfolding build numOf
@@ -58,47 +47,42 @@ unfolding build secondOf
 second-joined x ts e = rw e
 
 module _ {l : List ℕ} {c : ℕ} (sound : Sound l c) (long : length l ≡ 512) where
-  -- the term at a label, written out
-  tree-is : {i : ℕ} {x : Tree} → Den l c i x → build (termAt l i) (trees l c) ≡ x
-  unfolding means
-  tree-is {i} d = sym (tree-at sound long i (d .below)) ∙ d .is
-
   parts-in : {i : ℕ} {x : Tree} → Den l c i x → partsBelow (termAt l i) c ≡ true
   parts-in {i} d = let h = d .below in parts-more (termAt l i) i c (omega arith) (sound .parts i (d .below))
 
   pub den-kind : {i : ℕ} {x : Tree} → Den l c i x → termAt l i .kind ≡ kindOf x
-  den-kind {i} d = sym (kind-build (termAt l i) (trees l c)) ∙ ap kindOf (tree-is d)
+  den-kind {i} d = sym (kind-build (termAt l i) (trees l c)) ∙ ap kindOf (tree-is sound long d)
 
   -- the number of a leaf, and of the key of a signature or an encryption
   pub den-number : {i : ℕ} {x : Tree} → Den l c i x → shapeOf (termAt l i .kind) ≡ Number → termAt l i .a ≡ numOf x
-  den-number {i} d e = sym (num-leaf (termAt l i) (trees l c) e) ∙ ap numOf (tree-is d)
+  den-number {i} d e = sym (num-leaf (termAt l i) (trees l c) e) ∙ ap numOf (tree-is sound long d)
 
   pub den-leaf : {i : ℕ} {x : Tree} → Den l c i x → shapeOf (termAt l i .kind) ≡ Number → x ≡ leaf (termAt l i .kind) (termAt l i .a)
-  den-leaf {i} d e = sym (tree-is d) ∙ leaf-build (termAt l i) (trees l c) e
+  den-leaf {i} d e = sym (tree-is sound long d) ∙ leaf-build (termAt l i) (trees l c) e
 
   pub den-key : {i : ℕ} {x : Tree} → Den l c i x → shapeOf (termAt l i .kind) ≡ Sealed → termAt l i .b ≡ numOf x
-  den-key {i} d e = sym (num-sealed (termAt l i) (trees l c) e) ∙ ap numOf (tree-is d)
+  den-key {i} d e = sym (num-sealed (termAt l i) (trees l c) e) ∙ ap numOf (tree-is sound long d)
 
   -- the part that is signed or encrypted, and the parts of a pair
   pub den-inside : {i : ℕ} {x : Tree} → Den l c i x → shapeOf (termAt l i .kind) ≡ Sealed → Den l c (termAt l i .a) (firstOf x)
   unfolding treeOf
   den-inside {i} d e = record {
     below = part-sealed (termAt l i) c e (parts-in d);
-    is = sym (first-sealed (termAt l i) (trees l c) e) ∙ ap firstOf (tree-is d);
+    is = sym (first-sealed (termAt l i) (trees l c) e) ∙ ap firstOf (tree-is sound long d);
   }
 
   pub den-first : {i : ℕ} {x : Tree} → Den l c i x → shapeOf (termAt l i .kind) ≡ Joined → Den l c (termAt l i .a) (firstOf x)
   unfolding treeOf
   den-first {i} d e = record {
     below = part-first (termAt l i) c e (parts-in d);
-    is = sym (first-joined (termAt l i) (trees l c) e) ∙ ap firstOf (tree-is d);
+    is = sym (first-joined (termAt l i) (trees l c) e) ∙ ap firstOf (tree-is sound long d);
   }
 
   pub den-second : {i : ℕ} {x : Tree} → Den l c i x → shapeOf (termAt l i .kind) ≡ Joined → Den l c (termAt l i .b) (secondOf x)
   unfolding treeOf
   den-second {i} d e = record {
     below = part-second (termAt l i) c e (parts-in d);
-    is = sym (second-joined (termAt l i) (trees l c) e) ∙ ap secondOf (tree-is d);
+    is = sym (second-joined (termAt l i) (trees l c) e) ∙ ap secondOf (tree-is sound long d);
   }
 
   -- equal labels exactly where the terms are the same

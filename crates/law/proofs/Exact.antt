@@ -7,10 +7,11 @@ use native.Mathlib.Omega.{arith}
 use lib.ListN.{getD}
 use lib.Dec.{eqb, ltb}
 use Rattle.terms.specs.Base.{pick, Held, held}
-use Rattle.terms.specs.Tree.{Tree, nought, sinit, dinit}
+use Rattle.terms.specs.Tree.{Tree, nought, sinit, dinit, kindOf}
 use Rattle.terms.specs.Meaning.{trees, treeOf, Den}
 use Rattle.terms.specs.Promise.{Grows, Each}
-use Rattle.terms.proofs.Meaning.{den-at, den-grows, den-nought, den-sinit, den-dinit, grows-refl, grows-then}
+use Rattle.terms.proofs.Labels.{den-at}
+use Rattle.terms.proofs.Growth.{den-grows, den-nought, den-sinit, den-dinit, grows-refl, grows-then}
 use Rattle.terms.proofs.Depth.{each-at}
 use Rattle.terms.proofs.Substs.{each-grows}
 use Rattle.model.specs.declared.records.Model.{Model}
@@ -37,7 +38,7 @@ use Rattle.rules.specs.declared.work.Worked.the-variants as K
 use Rattle.rules.proofs.Alike.{Alike, made-alike}
 use Rattle.rules.proofs.Back.{work-back}
 use Rattle.law.specs.Out.{Out, ok, refuse, andThen}
-use Rattle.law.specs.Act.{kindOf, programOf}
+use Rattle.law.specs.Act.{programOf}
 use Rattle.law.specs.Rules.{State, Acted, acted, Made, layoutOf, operand, acts, actionOf, made, goBy, stepR}
 use Rattle.law.specs.Meant.{bare}
 use Rattle.law.specs.Like.{Leaves, at, All, Named, Like, LikeMade, Exactly, both, neither, Fine}

@@ -8,7 +8,7 @@ use lib.ListN.{getD}
 use Rattle.terms.specs.Term.{shapeOf}
 use Rattle.terms.specs.Line.{packed, termIn}
 use Rattle.terms.specs.Table.{fixedLine, freshTable}
-use Rattle.terms.specs.Tree.{deepness, substT, same, member, with, enter}
+use Rattle.terms.specs.Tree.{kindOf, deepness, substT, same, member, with, enter}
 use Rattle.terms.specs.Meaning.{build, treesFrom, trees, treeOf}
 use Rattle.model.specs.Records.{packAction, actionIn, machineIn, locationIn, packThread, threadIn, actionAt, lengthAt, machineAt, locationAt, threadAt}
 use Rattle.state.specs.Slot.{packSlot, slotIn, slotAt, lowestIn, lowestFree}
@@ -28,7 +28,7 @@ use Rattle.rules.specs.Made.{jumpedOn, actedOn, resetOn, advancedOn, madeOn}
 use Rattle.audit.proofs.Bare.{bareWith}
 use Rattle.law.specs.Out.{Out, ok, refuse, andThen}
 use Rattle.law.specs.Size.{fits}
-use Rattle.law.specs.Act.{kindOf, numOf, result, programOf}
+use Rattle.law.specs.Act.{numOf, result, programOf}
 use Rattle.law.specs.Rules.{Made, freshState, operand, acts, made, stepR}
 use Rattle.law.specs.Runs.{runRules}
 

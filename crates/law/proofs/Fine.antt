@@ -31,7 +31,7 @@ eval-form : (op loc : ℕ) (r : Bool) → op ≡ 14 → pick (leb 21 op) false (
 unfolding locOf
 eval-form op loc r e h = also-left (ltb loc 256) r (rw e at h)
 
-form-function : (a : Action) → inForm a ≡ true → a .op ≡ 14 → a .loc < 256
+pub form-function : (a : Action) → inForm a ≡ true → a .op ≡ 14 → a .loc < 256
 unfolding inForm locInForm
 form-function a f e = ltb-true (a .loc) 256 (eval-form (a .op) (a .loc) (also (unusedZero (usesX (a .op)) (a .x)) (unusedZero (usesY (a .op)) (a .y))) e f)
 

@@ -7,7 +7,7 @@ use native.Mathlib.Omega.{arith}
 use lib.ListN.{length, getD, replicate, length-replicate, getD-replicate, List·getD-eq-default}
 use lib.Dec.{ltb, leb}
 use borrow.Author.Tests.{ltb-true, ltb-false, lt-ltb, le-ltb}
-use Rattle.terms.specs.Base.{pick, also}
+use Rattle.terms.specs.Base.{pick}
 use Rattle.terms.specs.Term.{term}
 use Rattle.terms.specs.Line.{grade, termIn, termAt}
 use Rattle.terms.specs.Table.{fixedLine}
@@ -16,6 +16,7 @@ use Rattle.terms.specs.declared.term.Term.{Term}
 use Rattle.terms.proofs.Pack.{Small, term-packed}
 use Rattle.model.specs.Records.{locationIn, locationAt}
 use Rattle.model.specs.declared.records.Model.{Model}
+use Rattle.model.proofs.Tests.{also-never}
 use Rattle.state.specs.Slot.{thread, packSlot, slotIn, slotAt}
 use Rattle.state.specs.Control.{freshSlot, freshSlots, freshFrame, firstValue, firstValues, freshControl}
 use Rattle.state.specs.declared.slot.Slot.{Slot}
@@ -82,10 +83,6 @@ module _ (m : Model) where
   first-sound M = record { long = first-long; listed = first-stored M; past = λ i h. first-past M i h (ltb i 32) refl }
 
 -- a thread before its first action has bound nothing
-pub also-never : (p : Bool) → also p false ≡ false
-also-never true = refl
-also-never false = refl
-
 pub start-unbound : (s : Slot) (k : ℕ) → s .position ≡ 0 → isBound s k ≡ false
 unfolding isBound
 start-unbound s k e = let h : s .position ≤ k = omega arith in rw (le-ltb k (s .position) h) (also-never (s .live))

@@ -1,26 +1,23 @@
 -- The leaves of a sound table's terms: nonces below the next, and code terms that name a program. From the lines of the
 -- table to its terms, and back.
 use Prim.Native.Nat.{ℕ, _<_, _≤_}
-use mathlib.Core.Path.{_≡_, _∙_, subst}
-use mathlib.Core.List.{List, [], _∷_, _++_}
+use mathlib.Core.Path.{_≡_, ap, _∙_, subst}
+use mathlib.Core.List.{List}
 use native.Mathlib.Omega.{arith}
 use lib.ListN.{length}
 use Rattle.terms.specs.Term.{shapeOf}
 use Rattle.terms.specs.Line.{termAt}
-use Rattle.terms.specs.Tree.{Tree, leaf, nought}
-use Rattle.terms.specs.Meaning.{build, trees, treeOf, means}
+use Rattle.terms.specs.Tree.{Tree, nought}
+use Rattle.terms.specs.Meaning.{trees, treeOf, means}
 use Rattle.terms.specs.Sound.{Sound}
-use Rattle.terms.specs.declared.term.Term.{Term}
 use Rattle.terms.specs.declared.term.Shape.the-variants.{Number}
 use Rattle.terms.proofs.Meaning.{tree-at}
 use Rattle.model.specs.declared.records.Model.{Model}
 use Rattle.audit.specs.Whole.{SoundTerms}
 use Rattle.law.specs.Like.{Leaves, at, in-sealed, in-applied, in-joined, All}
-use Rattle.law.proofs.Leaves.{all-at}
+use Rattle.law.proofs.Denote.{leaf-build}
+use Rattle.law.proofs.Leaves.{leaf-of, all-at}
 use Rattle.law.proofs.Stands.{table-leaves}
-
-leaf-of : {Q : ℕ → ℕ → Type 0} {k a : ℕ} → Leaves Q (leaf k a) → Q k a
-leaf-of (at q) = q
 
 -- what follows from Q holds of the leaves too
 leaves-more : {Q R : ℕ → ℕ → Type 0} → ((k a : ℕ) → Q k a → R k a) → {x : Tree} → Leaves Q x → Leaves R x
@@ -33,21 +30,12 @@ pub all-more : {Q R : ℕ → ℕ → Type 0} → ((k a : ℕ) → Q k a → R k
 all-more f All.none = All.none
 all-more f (All.one l ls) = All.one (leaves-more f l) (all-more f ls)
 
--- one more behind
-pub all-push : {Q : ℕ → ℕ → Type 0} {ts : List Tree} {x : Tree} → All (Leaves Q) ts → Leaves Q x → All (Leaves Q) (ts ++ (x ∷ []))
-all-push All.none l = All.one l All.none
-all-push (All.one k ks) l = All.one k (all-push ks l)
-
-number-built : (x : Term) (ts : List Tree) → shapeOf (x .kind) ≡ Number → build x ts ≡ leaf (x .kind) (x .a)
-unfolding build
-number-built x ts e = rw e
-
 -- back from a term that is a leaf to its line
 leaf-line : {Q : ℕ → ℕ → Type 0} {l : List ℕ} {c : ℕ} → Sound l c → length l ≡ 512 → Q 0 0 → All (Leaves Q) (trees l c) → (i : ℕ) → i < c
     → shapeOf (termAt l i .kind) ≡ Number → Q (termAt l i .kind) (termAt l i .a)
 unfolding treeOf means
 leaf-line {Q} {l} {c} S p z f i h e =
-    leaf-of (subst (Leaves Q) (tree-at S p i h ∙ number-built (termAt l i) (trees l c) e) (all-at nought (at z) f i))
+    leaf-of (subst (Leaves Q) (tree-at S p i h ∙ leaf-build (termAt l i) (trees l c) e) (all-at nought (at z) f i))
 
 -- a nonce is below the next, a code term names a program
 pub record LeafSound (next programs k a : ℕ) : Type 0 where
@@ -63,17 +51,11 @@ leaf-later nonce after programs h k a s = record { nonce = λ e. omega (arith, s
 pub terms-leaves : {m : Model} {l : List ℕ} {n nonce : ℕ} → SoundTerms m l n nonce → All (Leaves (LeafSound nonce (m .programs))) (trees l n)
 terms-leaves T = table-leaves (T .table) (T .long) (λ i h. record { nonce = T .nonces i h; code = T .codes i h })
 
-seven : (k : ℕ) → k ≡ 7 → shapeOf k ≡ Number
-unfolding shapeOf
-seven k e = rw e
-
-eight : (k : ℕ) → k ≡ 8 → shapeOf k ≡ Number
-unfolding shapeOf
-eight k e = rw e
-
 module _ {l : List ℕ} {c nonce programs : ℕ} (S : Sound l c) (p : length l ≡ 512) (f : All (Leaves (LeafSound nonce programs)) (trees l c)) where
   pub line-nonce : (i : ℕ) → i < c → termAt l i .kind ≡ 7 → termAt l i .a < nonce
-  line-nonce i h e = leaf-line S p (leaf-none nonce programs) f i h (seven (termAt l i .kind) e) .nonce e
+  unfolding shapeOf
+  line-nonce i h e = leaf-line S p (leaf-none nonce programs) f i h (ap shapeOf e) .nonce e
 
   pub line-code : (i : ℕ) → i < c → termAt l i .kind ≡ 8 → termAt l i .a < programs
-  line-code i h e = leaf-line S p (leaf-none nonce programs) f i h (eight (termAt l i .kind) e) .code e
+  unfolding shapeOf
+  line-code i h e = leaf-line S p (leaf-none nonce programs) f i h (ap shapeOf e) .code e

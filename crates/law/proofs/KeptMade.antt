@@ -6,8 +6,8 @@ use mathlib.Core.Bool.{Bool, true, false}
 use mathlib.Core.List.{List}
 use native.Mathlib.Omega.{arith}
 use lib.ListN.{length, getD, length-set}
-use lib.Dec.{ltb, eqb}
-use borrow.Author.Tests.{ltb-true, lt-ltb, ne-eqb, eqb-true}
+use lib.Dec.{eqb}
+use borrow.Author.Tests.{lt-ltb, ne-eqb, eqb-true}
 use Rattle.terms.specs.Base.{pick}
 use Rattle.terms.specs.Promise.{Grows}
 use Rattle.model.specs.Records.{lengthAt, machineAt}
@@ -23,9 +23,8 @@ use Rattle.state.specs.FrameSound.{FrameSound, ThreadSound, Grounds}
 use Rattle.state.specs.declared.slot.Slot.{Slot}
 use Rattle.state.specs.declared.control.Frame.{Frame}
 use Rattle.state.specs.declared.control.Control.{Control}
-use Rattle.state.proofs.Live.{free-there, zero-free}
-use Rattle.state.proofs.Threads.{never}
-use Rattle.state.proofs.Frame.{moved-keeps, jumped-keeps, launched-keeps, handed-keeps, reset-keeps, reset-finds}
+use Rattle.state.proofs.Live.{free-there}
+use Rattle.state.proofs.Frame.{live-place, slot-there, moved-keeps, jumped-keeps, launched-keeps, handed-keeps, reset-keeps, reset-finds}
 use Rattle.rules.specs.Effect.{boundBy, bound}
 use Rattle.rules.specs.Made.{Config, jumpedOn, actedOn, launchedOn, resetOn, handedOn, advancedOn, configOf, control}
 use Rattle.audit.specs.Sound.{SoundModel, FitAction}
@@ -36,17 +35,9 @@ use Rattle.law.proofs.KeptFresh.{start-packed}
 use Rattle.law.proofs.KeptWant.{stored-none}
 use Rattle.law.proofs.KeptWork.{next-fit}
 use Rattle.law.proofs.KeptValues.{pick-stored, lock-listed, values-more, values-stored, values-launched, values-reset}
-use Rattle.law.proofs.KeptVars.{vars-more, vars-cleared, vars-bound, vars-reset, slot-other, slot-there}
+use Rattle.law.proofs.KeptVars.{vars-more, vars-cleared, vars-bound, vars-reset, slot-other}
 
 -- the slot of a live thread
-place-by : (b : Bool) (n : ℕ) → pick b (slotIn n) (slotIn 0) .live ≡ true → b ≡ true
-place-by true n h = refl
-place-by false n h = absurd (never (slotIn 0 .live) h zero-free)
-
-live-place : (l : List ℕ) (i : ℕ) → slotAt l i .live ≡ true → i < 12
-unfolding slotAt
-live-place l i h = ltb-true i 12 (place-by (ltb i 12) (getD l i 0) h)
-
 pub live-sound : {m : Model} {f : Frame} → FrameSound m f → (i : ℕ) → slotAt (f .slots) i .live ≡ true → ThreadSound m (f .serial) (slotAt (f .slots) i)
 live-sound {f = f} F i e =
     let h : i < 12 = live-place (f .slots) i e in

@@ -1,10 +1,10 @@
 -- M3 for whole runs, and in terms of the tests that the code makes: where model and configuration passed them once, every
 -- configuration reached passes them. So a run or a search may check once and then make its steps unchecked.
 use Prim.Native.Nat.{ℕ, _<_}
-use mathlib.Core.Path.{_≡_, refl, ap, _∙_}
+use mathlib.Core.Path.{_≡_}
 use mathlib.Core.Bool.{true}
 use mathlib.Core.List.{List, [], _∷_}
-use Rattle.terms.specs.Base.{pick, Held}
+use Rattle.terms.specs.Base.{Held}
 use Rattle.model.specs.declared.records.Model.{Model}
 use Rattle.state.specs.Slot.{lowestFree}
 use Rattle.state.specs.Reset.{slotsReset}
@@ -17,7 +17,7 @@ use Rattle.audit.specs.Models.{soundModel}
 use Rattle.audit.specs.Sound.{SoundModel}
 use Rattle.audit.specs.Configuration.{soundControl}
 use Rattle.audit.specs.Whole.{Arrays, Lengths, SoundConfig}
-use Rattle.audit.proofs.Check.{test-model, model-test}
+use Rattle.audit.proofs.Check.{test-model}
 use Rattle.audit.proofs.Whole.{sound-grounds, test-control, control-test}
 use Rattle.law.specs.Rules.{layoutOf}
 use Rattle.law.specs.Like.{All}
@@ -35,16 +35,6 @@ LeavesSound m w = SoundConfig m (w .table) (w .out .control)
 
 abbrev pub LeavesPassing : Model → Held Stepped → Type 0
 LeavesPassing m w = soundControl m (w .table) (w .out .control) ≡ true
-
--- a sound configuration has the lengths of its arrays
-pub config-lengths : {m : Model} {l : List ℕ} {s : Control} → SoundConfig m l s → Lengths l s
-config-lengths C = record {
-  lines = C .terms .long;
-  slots = C .frame .slots .long;
-  locks = C .frame .locks .long;
-  values = C .values .long;
-  vars = C .vars .long;
-}
 
 -- M4: a reset finds a free slot in every sound configuration
 pub slot-found : {m : Model} → SoundModel m → Arrays m → {l : List ℕ} {s : Control} → SoundConfig m l s → (k : ℕ)
@@ -85,24 +75,3 @@ run-test A L e f ks =
 
 pub reached-test : {m : Model} → Arrays m → soundModel m ≡ true → (ks : List ℕ) → All (LeavesPassing m) (runLabels m (m .lines) (freshControl m) ks)
 reached-test A e ks = all-pass A (reached-sound (test-model (A .lines) e) A ks)
-
--- The tests made before a step find nothing: with 11 asked first or not, it is the same step, and the same run
-
-pub checked-inner : {m : Model} → SoundModel m → Arrays m → {l : List ℕ} {s : Control} → SoundConfig m l s → {B : Type 0} (x y : B)
-    → pick (soundModel m) (pick (soundControl m l s) x y) y ≡ x
-checked-inner M A C x y = rw (model-test (A .lines) M, control-test A C)
-
--- a run whose steps are made by `step`
-unfoldable pub runBy : (List ℕ → Control → ℕ → Held Stepped) → List ℕ → Control → List ℕ → List (Held Stepped)
-runBy step l s [] = []
-runBy step l s (k ∷ ks) = step l s k ∷ runBy step (step l s k .table) (step l s k .out .control) ks
-
--- any step that is the machine's on sound configurations, as the checked one is, makes the same run
-pub run-agrees : {m : Model} → SoundModel m → Arrays m → (step : List ℕ → Control → ℕ → Held Stepped)
-    → ((l : List ℕ) (s : Control) (code : ℕ) → SoundConfig m l s → step l s code ≡ stepFrom m l s code)
-    → {l : List ℕ} {s : Control} → SoundConfig m l s → (ks : List ℕ) → runBy step l s ks ≡ runLabels m l s ks
-unfolding runBy runLabels
-run-agrees M A step f C [] = refl
-run-agrees {m} M A step f {l} {s} C (k ∷ ks) =
-    ap (λ (w : Held Stepped). w ∷ runBy step (w .table) (w .out .control) ks) (f l s k C)
-    ∙ ap (λ (ws : List (Held Stepped)). stepFrom m l s k ∷ ws) (run-agrees M A step f (step-sound M A C k) ks)

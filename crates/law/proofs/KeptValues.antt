@@ -11,11 +11,12 @@ use Rattle.terms.specs.Base.{pick}
 use Rattle.terms.specs.Tree.{sinit, dinit, isGround}
 use Rattle.terms.specs.Sound.{Sound}
 use Rattle.terms.specs.Promise.{Grows}
-use Rattle.terms.proofs.Meaning.{den-sinit, den-dinit}
+use Rattle.terms.proofs.Growth.{den-sinit, den-dinit}
 use Rattle.model.specs.Fields.{locOf}
 use Rattle.model.specs.Records.{locationIn}
 use Rattle.model.specs.declared.records.Action.{Action}
 use Rattle.model.specs.declared.records.Model.{Model}
+use Rattle.model.proofs.Tests.{also-never}
 use Rattle.state.specs.Each.{each2}
 use Rattle.state.specs.Launch.{isDynamic}
 use Rattle.state.specs.FrameSound.{Grounds}
@@ -27,7 +28,6 @@ use Rattle.rules.specs.Restart.{valueLaunched, valuesLaunched, resetValue, valu
 use Rattle.audit.specs.Programs.{namesLocation}
 use Rattle.audit.specs.Sound.{FitAction}
 use Rattle.audit.specs.Whole.{Stored, SoundValues}
-use Rattle.law.proofs.KeptFresh.{also-never}
 use Rattle.law.proofs.KeptWant.{stored-grows, stored-den, stored-none}
 
 -- sinit and dinit are stored labels

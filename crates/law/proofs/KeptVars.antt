@@ -1,11 +1,11 @@
 -- The variables stay sound: "exactly the earlier variables bound". A thread that moves on binds one, a thread that ends,
 -- jumps or is replaced has none, and a reset unbinds those of the threads that it ends.
 use Prim.Native.Nat.{ℕ, zero, suc, _+_, _*_, _/_, _<_, _≤_}
-use mathlib.Core.Path.{_≡_, refl, sym, ap, _∙_}
+use mathlib.Core.Path.{_≡_, refl, ap, _∙_}
 use mathlib.Core.Bool.{Bool, true, false}
-use mathlib.Core.List.{List, [], _∷_, map}
+use mathlib.Core.List.{List, [], _∷_}
 use native.Mathlib.Omega.{arith}
-use lib.ListN.{length, getD, set, length-set, length-map, List·getD-map}
+use lib.ListN.{length, getD, set, length-set, length-map}
 use lib.Seq.{getD-set-same, getD-set-other}
 use lib.Dec.{ltb, eqb}
 use borrow.Author.Tests.{ltb-true, ltb-false, lt-ltb, le-ltb, leb-false, eqb-true, eqb-false}
@@ -15,18 +15,20 @@ use Rattle.terms.specs.Promise.{Grows}
 use Rattle.terms.proofs.Back.{wipe-long, wipe-before, wipe-behind, wipe-within}
 use Rattle.terms.proofs.Meaning.{also-right, also-both}
 use Rattle.model.specs.Records.{lengthAt}
+use Rattle.model.proofs.Tests.{also-never}
 use Rattle.state.specs.Slot.{thread, packSlot, slotIn, slotAt}
 use Rattle.state.specs.Moves.{withSlot, isLast, movedOn}
 use Rattle.state.specs.Reset.{isOn, slotReset, slotsReset}
 use Rattle.state.specs.declared.slot.Slot.{Slot}
 use Rattle.state.proofs.Pack.{SmallSlot, slot-small, slot-packed}
-use Rattle.state.proofs.Threads.{never}
+use Rattle.state.proofs.Threads.{never, reset-at}
+use Rattle.state.proofs.Frame.{slot-there}
 use Rattle.rules.specs.Effect.{placeOf, withVar, filled, cleared, bound}
 use Rattle.rules.specs.Restart.{varReset, eachSlot, varsReset}
 use Rattle.audit.specs.Configuration.{isBound}
 use Rattle.audit.specs.Whole.{Stored, VarSound, SoundVars}
 use Rattle.law.proofs.KeptWant.{stored-grows}
-use Rattle.law.proofs.KeptFresh.{also-never, start-unbound, zero-start}
+use Rattle.law.proofs.KeptFresh.{start-unbound, zero-start}
 
 pub vars-more : {l : List ℕ} {c : ℕ} {k : List ℕ} {d : ℕ} {slots vars : List ℕ} → Grows l c k d → SoundVars l c slots vars → SoundVars k d slots vars
 vars-more g s = record {
@@ -209,18 +211,6 @@ slots-long f i (v ∷ vs) slots = ap suc (slots-long f (i + 1) vs slots)
 ended-by : {l : List ℕ} {c : ℕ} (b : Bool) (n x v : ℕ) → VarSound l c (slotIn n) x v → VarSound l c (slotIn (pick b 0 n)) x (pick b 0 v)
 ended-by {l} {c} true n x v t = free-sound l c (slotIn 0) x 0 (start-unbound (slotIn 0) x zero-start) refl
 ended-by false n x v t = t
-
-reset-zero : (k : ℕ) → slotReset k 0 ≡ 0
-unfolding slotReset isOn slotIn
-reset-zero k = refl
-
-reset-at : (k : ℕ) (slots : List ℕ) (i : ℕ) → getD (slotsReset slots k) i 0 ≡ slotReset k (getD slots i 0)
-unfolding slotsReset
-reset-at k slots i = ap (λ (d : ℕ). getD (map (slotReset k) slots) i d) (sym (reset-zero k)) ∙ List·getD-map (slotReset k) slots i 0
-
-pub slot-there : (slots : List ℕ) (i : ℕ) → i < 12 → slotAt slots i ≡ slotIn (getD slots i 0)
-unfolding slotAt
-slot-there slots i h = rw (lt-ltb i 12 h)
 
 module _ {l : List ℕ} {c : ℕ} (slots vars : List ℕ) (s : SoundVars l c slots vars) (k : ℕ) where
   var-at : (j : ℕ) → j < 192 → getD (varsReset 0 vars slots k) j 0 ≡ varReset 0 k (getD vars j 0) (getD slots (j / 16) 0)

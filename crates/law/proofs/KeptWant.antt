@@ -18,7 +18,8 @@ use Rattle.terms.specs.Promise.{Fit, Grows}
 use Rattle.terms.specs.declared.term.Term.{Term}
 use Rattle.terms.specs.declared.term.Shape.the-variants.{Sealed, Joined}
 use Rattle.terms.proofs.Pack.{term-small}
-use Rattle.terms.proofs.Meaning.{also-left, also-right, also-both, tree-at, part-sealed, part-first, part-second, tree-grows, den-nought}
+use Rattle.terms.proofs.Meaning.{also-left, also-right, also-both, tree-at, part-sealed, part-first, part-second}
+use Rattle.terms.proofs.Growth.{tree-grows, den-nought}
 use Rattle.model.specs.declared.records.Action.{Action}
 use Rattle.rules.specs.Want.{operandsGiven, sealedBy, openedBy, firstHalf, secondHalf, matchedOf, codeNeeded, wantOf}
 use Rattle.rules.specs.declared.want.Want.{Want}
@@ -26,6 +27,7 @@ use Rattle.rules.specs.declared.want.Want.the-variants.{Refuse, Keep, Make}
 use Rattle.rules.specs.declared.want.Given.{Given}
 use Rattle.audit.specs.Whole.{Stored}
 use Rattle.law.specs.Like.{Leaves, at, in-sealed, in-applied, in-joined}
+use Rattle.law.proofs.Denote.{pair-shape}
 
 -- a stored label stays one, and number 0 is one
 pub stored-grows : {l : List ℕ} {c : ℕ} {m : List ℕ} {d v : ℕ} → Grows l c m d → Stored l c v → Stored m d v
@@ -161,17 +163,13 @@ module _ {l : List ℕ} {c : ℕ} (S : Sound l c) (p : length l ≡ 512) where
           fine-fit Q l c (eqb (termAt l x .b) (termAt l y .a)) _ (λ j.
           keep (sealed-part x sx (ap shapeOf (eqb-true (termAt l x .kind) k h) ∙ e)))))
 
-      pair-shape : eqb (termAt l x .kind) 9 ≡ true → shapeOf (termAt l x .kind) ≡ Joined
-      unfolding shapeOf
-      pair-shape h = rw (eqb-true (termAt l x .kind) 9 h)
-
       fine-first : WantFine Q l c (firstHalf given)
       unfolding firstHalf
-      fine-first = fine-fit Q l c (eqb (termAt l x .kind) 9) _ (λ h. keep (first-part x sx (pair-shape h)))
+      fine-first = fine-fit Q l c (eqb (termAt l x .kind) 9) _ (λ h. keep (first-part x sx (pair-shape (termAt l x .kind) h)))
 
       fine-second : WantFine Q l c (secondHalf given)
       unfolding secondHalf
-      fine-second = fine-fit Q l c (eqb (termAt l x .kind) 9) _ (λ h. keep (second-part x sx (pair-shape h)))
+      fine-second = fine-fit Q l c (eqb (termAt l x .kind) 9) _ (λ h. keep (second-part x sx (pair-shape (termAt l x .kind) h)))
 
       fine-match : WantFine Q l c (matchedOf given)
       unfolding matchedOf

@@ -8,7 +8,7 @@ use native.Mathlib.Omega.{arith}
 use lib.ListN.{length, getD, List·getD-eq-default}
 use lib.Dec.{ltb, eqb}
 use borrow.Author.Tests.{ltb-true, ltb-false, lt-ltb, eqb-true}
-use Rattle.terms.specs.Base.{pick, also, Held, held}
+use Rattle.terms.specs.Base.{pick, Held, held}
 use Rattle.terms.specs.Line.{termAt}
 use Rattle.terms.specs.Tree.{Tree, nought, isGround}
 use Rattle.terms.specs.Meaning.{trees, treeOf, means, Den}
@@ -17,11 +17,11 @@ use Rattle.terms.specs.Promise.{Grows, Each, none, one, Adds, Takes}
 use Rattle.terms.specs.declared.term.Term.{Term}
 use Rattle.terms.specs.declared.table.Added.{Added}
 use Rattle.terms.specs.declared.subst.Operands.{Operands}
-use Rattle.terms.proofs.Meaning.{also-left, term-grows, grows-then, den-at}
+use Rattle.terms.proofs.Labels.{den-at}
+use Rattle.terms.proofs.Growth.{term-grows, grows-then}
 use Rattle.terms.proofs.Add.{adds}
 use Rattle.terms.proofs.Enter.{subst-ground}
 use Rattle.terms.proofs.Substs.{takes}
-use Rattle.model.specs.Fields.{locOf, usesX, usesY, locInForm, unusedZero, inForm}
 use Rattle.model.specs.Records.{lengthAt}
 use Rattle.model.specs.declared.records.Action.{Action}
 use Rattle.model.specs.declared.records.Model.{Model}
@@ -40,8 +40,9 @@ use Rattle.audit.specs.Sound.{SoundModel, FitAction}
 use Rattle.audit.specs.Configuration.{isBound}
 use Rattle.audit.specs.Whole.{SoundTerms, Stored, SoundValues, VarSound, SoundVars, SoundConfig}
 use Rattle.law.specs.Like.{Leaves, at, All}
-use Rattle.law.proofs.Leaves.{all-at, leaves-subst, all-enter}
-use Rattle.law.proofs.KeptLeaves.{all-more, all-push, LeafSound, leaf-none, leaf-later, terms-leaves, line-nonce, line-code}
+use Rattle.law.proofs.Fine.{form-function}
+use Rattle.law.proofs.Leaves.{all-last, all-at, leaves-subst, all-enter}
+use Rattle.law.proofs.KeptLeaves.{all-more, LeafSound, leaf-none, leaf-later, terms-leaves, line-nonce, line-code}
 use Rattle.law.proofs.KeptWant.{stored-grows, stored-den, stored-none, WantFine, refuse, keep, make, fine-want}
 
 -- what is tried: refused, or a grown table with fine leaves and ground labels
@@ -57,7 +58,7 @@ module _ {Q : ℕ → ℕ → Type 0} {l : List ℕ} {c : ℕ} {k : List ℕ} {d
   met-by gr lv (Adds.deep h) = refused
   met-by gr lv (Adds.listed h n) = labelled g f sx (stored-den n gr)
   met-by gr lv (Adds.new h n r w n2 t) =
-      labelled (grows-then g w) (rw t (all-push f lv)) (stored-grows w sx) (stored-den n2 gr)
+      labelled (grows-then g w) (rw t (all-last f lv)) (stored-grows w sx) (stored-den n2 gr)
   met-by gr lv (Adds.full h n r) = refused
 
   met : {w : Want} → WantFine Q k d w → TriedFine Q l c (meetWant k d x y w)
@@ -154,12 +155,6 @@ nonce-new op n e h = rw (e, lt-ltb n 65535 h) (omega arith)
 
 leaf-new : (op n programs : ℕ) → n < 65535 → op ≡ 18 → LeafSound (nonceAfter op n) programs 7 n
 leaf-new op n programs h e = record { nonce = λ z. nonce-new op n e h; code = λ z. absurd (omega (arith, z)) }
-
--- a function's number
-form-function : (a : Action) → inForm a ≡ true → a .op ≡ 14 → a .loc < 256
-unfolding inForm locInForm locOf
-form-function a h e =
-    ltb-true (a .loc) 256 (also-left (ltb (a .loc) 256) (also (unusedZero (usesX 14) (a .x)) (unusedZero (usesY 14) (a .y))) (rw e at h))
 
 -- the action that a live thread of a sound configuration stands before
 pub next-fit : {m : Model} → SoundModel m → {next : ℕ} {q : Slot} → ThreadSound m next q

@@ -8,7 +8,7 @@ use lib.ListN.{length, getD}
 use lib.Dec.{eqb, leb}
 use borrow.Author.Tests.{eqb-true}
 use Rattle.terms.specs.Base.{pick}
-use Rattle.terms.specs.Tree.{Tree, sealed, nought, same, substT, member, with, enter}
+use Rattle.terms.specs.Tree.{Tree, leaf, sealed, nought, same, substT, member, with, enter}
 use Rattle.model.specs.declared.records.Action.{Action}
 use Rattle.law.specs.Out.{Out, ok, refuse, andThen}
 use Rattle.law.specs.Size.{fits, fitsBoth, fitsOne}
@@ -35,7 +35,8 @@ holds-pick true f h = f refl
 holds-pick false f h = h
 
 module _ {A : Type 0} {P : A → Type 0} where
-  all-last : {l : List A} {a : A} → All P l → P a → All P (l ++ (a ∷ []))
+  -- one more behind
+  pub all-last : {l : List A} {a : A} → All P l → P a → All P (l ++ (a ∷ []))
   all-last none p = one p none
   all-last (one q ps) p = one q (all-last ps p)
 
@@ -46,6 +47,9 @@ module _ {A : Type 0} {P : A → Type 0} where
   all-at d p (one q qs) (suc i) = all-at d p qs i
 
 module _ {Q : ℕ → ℕ → Type 0} where
+  pub leaf-of : {k a : ℕ} → Leaves Q (leaf k a) → Q k a
+  leaf-of (at q) = q
+
   leaves-first : {x : Tree} → Q 0 0 → Leaves Q x → Leaves Q (firstOf x)
   unfolding firstOf
   leaves-first z (at q) = at z

@@ -33,13 +33,11 @@ use Rattle.rules.specs.declared.event.Happening.{Happening}
 use Rattle.rules.specs.declared.work.Labels.{Labels}
 use Rattle.law.specs.Act.{numOf, programOf}
 use Rattle.law.specs.Meant.{deedIn, bare}
-use Rattle.law.specs.Like.{Leaves, at, Named}
+use Rattle.law.specs.Like.{Leaves, Named}
 use Rattle.law.proofs.Denote.{den-kind, den-number, den-leaf}
+use Rattle.law.proofs.Leaves.{leaf-of}
 
 -- The program of a jump
-
-leaves-leaf : {Q : ℕ → ℕ → Type 0} {k a : ℕ} → Leaves Q (leaf k a) → Q k a
-leaves-leaf (at q) = q
 
 module _ (m : Model) (few : m .programs ≤ 32) {l : List ℕ} {c : ℕ} (sound : Sound l c) (long : length l ≡ 512) where
   code-number : {i : ℕ} {x : Tree} → Den l c i x → Leaves (Named m) x → eqb (termAt l i .kind) 8 ≡ true → termAt l i .a % 256 ≡ numOf x
@@ -48,7 +46,7 @@ module _ (m : Model) (few : m .programs ≤ 32) {l : List ℕ} {c : ℕ} (sound 
       let k : termAt l i .kind ≡ 8 = eqb-true (termAt l i .kind) 8 t in
       let s : shapeOf (termAt l i .kind) ≡ Number = ap shapeOf k in
       let q : Leaves (Named m) (leaf (termAt l i .kind) (termAt l i .a)) = subst (Leaves (Named m)) (den-leaf sound long d s) p in
-      let r : termAt l i .a < m .programs = leaves-leaf q k in
+      let r : termAt l i .a < m .programs = leaf-of q k in
       let e : termAt l i .a ≡ numOf x = den-number sound long d s in
       let h : termAt l i .a % 256 ≡ termAt l i .a = omega arith in
       h ∙ e

@@ -18,7 +18,9 @@ use Rattle.terms.specs.Meaning.{buildBy, build, trees, treeOf, means, Den}
 use Rattle.terms.specs.Promise.{Grows, Each}
 use Rattle.terms.specs.declared.term.Shape.{Shape}
 use Rattle.terms.specs.declared.term.Shape.the-variants.{Bare, Number, Variable, Sealed, Hashed, Applied, Joined, Unknown}
-use Rattle.terms.proofs.Meaning.{also-left, also-right, tree-at, length-trees, den-at, den-nought, grows-refl}
+use Rattle.terms.proofs.Meaning.{also-left, also-right, tree-at, length-trees}
+use Rattle.terms.proofs.Labels.{den-at}
+use Rattle.terms.proofs.Growth.{den-nought, grows-refl}
 use Rattle.terms.proofs.Check.{test-sound}
 use Rattle.model.specs.Records.{locationAt}
 use Rattle.model.specs.declared.records.Model.{Model}

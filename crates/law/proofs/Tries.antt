@@ -15,7 +15,8 @@ use Rattle.terms.specs.Promise.{Fit, Grows, Each, Adds, deep, listed, new, full
 use Rattle.terms.specs.declared.term.Term.{Term}
 use Rattle.terms.specs.declared.table.Added.{Added}
 use Rattle.terms.specs.declared.subst.Operands.{Operands}
-use Rattle.terms.proofs.Meaning.{length-trees, den-grows, grows-then}
+use Rattle.terms.proofs.Meaning.{length-trees}
+use Rattle.terms.proofs.Growth.{den-grows, grows-then}
 use Rattle.terms.proofs.Add.{adds}
 use Rattle.terms.proofs.Enter.{with-new}
 use Rattle.terms.proofs.Depth.{den-enters}

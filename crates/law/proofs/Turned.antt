@@ -22,7 +22,7 @@ use Rattle.state.specs.Seek.{sightOf}
 use Rattle.state.specs.declared.code.Way.{Way}
 use Rattle.state.specs.declared.code.Way.the-variants as W
 use Rattle.state.specs.declared.control.Control.{Control}
-use Rattle.state.proofs.Turned.{first-iff, none-iff}
+use Rattle.state.proofs.Turned.{positive, first-iff, none-iff}
 use Rattle.rules.specs.Step.{stepOn}
 use Rattle.rules.specs.declared.inner.Stepped.{Stepped}
 use Rattle.audit.specs.Sound.{SoundModel}
@@ -117,11 +117,6 @@ first-append (r ∷ rs) ts (one p ps) = go (r .holds) (first-append rs ts ps)
         → pick b (r .number) (firstOf (rs ++ ts)) ≡ pick (eqb (pick b (r .number) (firstOf rs)) 0) (firstOf ts) (pick b (r .number) (firstOf rs))
     go true h = let e : eqb (r .number) 0 ≡ false = ne-eqb (r .number) 0 (λ z. omega (arith, z, p)) in rw e
     go false h = h
-
--- no reason has number 0
-abbrev positive : List Reason → Bool
-positive [] = true
-positive (r ∷ rs) = also (ltb 0 (r .number)) (positive rs)
 
 all-positive : (rs : List Reason) → positive rs ≡ true → All (λ r. 0 < r .number) rs
 all-positive [] h = none

@@ -3,16 +3,9 @@ use Prim.Native.Nat.{ℕ}
 use mathlib.Core.Bool.{Bool}
 use lib.Dec.{eqb}
 use Rattle.terms.specs.Base.{pick}
-use Rattle.terms.specs.Tree.{Tree, leaf, sealed, applied, joined, nought, same}
+use Rattle.terms.specs.Tree.{Tree, leaf, sealed, applied, joined, nought, kindOf, same}
 use Rattle.model.specs.declared.records.Action.{Action}
 use Rattle.law.specs.Out.{Out, ok, refuse}
-
--- the kind of a term, 0 to 15
-unfoldable pub kindOf : Tree → ℕ
-kindOf (leaf k a) = k
-kindOf (sealed k x n) = k
-kindOf (applied k f x) = k
-kindOf (joined k x y) = k
 
 -- the number in it: of a key, an inverse key or a program; of the key that a signature or an encryption was made with
 unfoldable pub numOf : Tree → ℕ

@@ -9,16 +9,13 @@ use native.Mathlib.Omega.{arith}
 use lib.ListN.{length, getD, take, drop, drop-of-length-le}
 use lib.Seq.{drop-cons}
 use lib.Dec.{ltb, eqb}
-use borrow.Author.Tests.{ltb-true, ltb-false, le-leb, lt-leb, lt-ltb, le-ltb, eq-eqb, ne-eqb}
+use borrow.Author.Tests.{ltb-true, ltb-false, lt-ltb, le-ltb, eq-eqb, ne-eqb}
 use Rattle.lines.specs.Base.{pick}
 use Rattle.lines.specs.Line.{span, noLF, cutLine}
 use Rattle.lines.specs.Field.{isDigit, wellSpelt, numberFrom, numberOf, capped, endBy, fieldOf, opensWith}
 use Rattle.lines.specs.declared.field.Cut.the-variants.{Line, Open}
 use Rattle.lines.specs.declared.field.Field.{Field}
 use Rattle.lines.specs.declared.field.Field.the-variants.{More, Last, Bad}
-
--- a test on numbers, as the branch tells it
-pub ruleset tests = (le-leb, lt-leb, lt-ltb, le-ltb, eq-eqb, ne-eqb)
 
 -- span: one byte
 module _ (p : ℕ → Bool) (s : List ℕ) (i : ℕ) where

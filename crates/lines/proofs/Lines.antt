@@ -67,11 +67,6 @@ pub lines-cons : (s : List ℕ) → 0 < length s → linesOf s ≡ take (widthOf
 lines-cons [] h = absurd (omega arith)
 lines-cons (b ∷ s) h = lines-by (eqb b 10) b s refl (lines-cons s)
 
-pub lines-none : (s : List ℕ) → length s ≡ 0 → linesOf s ≡ []
-unfolding linesOf
-lines-none [] e = refl
-lines-none (b ∷ s) e = absurd (omega arith)
-
 join-first : (b : ℕ) (ls : List (List ℕ)) → joined (onFirst b ls) ≡ b ∷ joined ls
 unfolding joined
 join-first b [] = refl
@@ -401,7 +396,7 @@ bad-small s i e h = let b : i ≤ 0 + length (linesOf s) = rw (← e) at (bad-le
 
 -- ---- the whole input
 
-before-by : (t : Bool) (m n : ℕ) → m ≤ n → pick t 0 (m + 1) ≤ suc n
+pub before-by : (t : Bool) (m n : ℕ) → m ≤ n → pick t 0 (m + 1) ≤ suc n
 before-by true m n h = omega arith
 before-by false m n h = omega arith
 

@@ -2,7 +2,7 @@
 -- named is the first bad one; a printed decimal has no needless zero and is read back; what is written stands in the buffer.
 use Prim.Native.Nat.{ℕ, zero, suc, _+_, _*_, _-_, _/_, _%_, _<_, _≤_, _^_}
 use mathlib.Core.Bool.{Bool, true, false}
-use mathlib.Core.List.{List, [], _∷_, _++_, append-assoc, append-nil}
+use mathlib.Core.List.{List, [], _∷_, _++_, append-assoc}
 use mathlib.Core.Path.{_≡_, refl, sym, ap, _∙_}
 use native.Mathlib.Numerals.{add-one}
 use native.Mathlib.Nat.{pow-suc}
@@ -18,11 +18,11 @@ use Rattle.lines.specs.Tail.{allOpen, beforeRun, startOf}
 use Rattle.lines.specs.Codes.{nextCode, judgeBy, judgeFrom}
 use Rattle.lines.specs.Put.{written, putByte, putAll, digitOf, decimalIn, decimal}
 use Rattle.lines.specs.declared.field.Cut.the-variants.{Line, Open}
-use Rattle.lines.specs.declared.field.Field.the-variants.{More, Last, Bad}
+use Rattle.lines.specs.declared.field.Field.the-variants.{Bad}
 use Rattle.lines.specs.declared.codes.Code.{Code}
 use Rattle.lines.specs.declared.codes.Code.the-variants as C
 use Rattle.lines.specs.declared.codes.Judged.the-variants.{BadAt}
-use Rattle.lines.proofs.Lines.{joined-lines}
+use Rattle.lines.proofs.Lines.{joined-lines, before-by}
 
 -- ---- bytes that pass a test
 
@@ -83,16 +83,12 @@ unfolding allOpen beforeRun
 run-opens c [] = refl
 run-opens c (l ∷ ls) = opens-by (allOpen c (l ∷ ls)) c (beforeRun c ls) l ls refl (run-opens c ls)
 
-longest-by : (t : Bool) (m k : ℕ) → m ≤ k → pick t 0 (m + 1) ≤ suc k
-longest-by true m k h = omega arith
-longest-by false m k h = omega arith
-
 -- and no longer end of the input has that
 pub run-longest : (c k : ℕ) (ls : List (List ℕ)) → allOpen c (drop k ls) ≡ true → beforeRun c ls ≤ k
 unfolding beforeRun
 run-longest c k [] h = omega arith
 run-longest c zero (l ∷ ls) h = rw h (omega arith)
-run-longest c (suc k) (l ∷ ls) h = longest-by (allOpen c (l ∷ ls)) (beforeRun c ls) k (run-longest c k ls h)
+run-longest c (suc k) (l ∷ ls) h = before-by (allOpen c (l ∷ ls)) (beforeRun c ls) k (run-longest c k ls h)
 
 joined-take : (k : ℕ) (ls : List (List ℕ)) → joined ls ≡ joined (take k ls) ++ joined (drop k ls)
 unfolding joined
@@ -213,21 +209,12 @@ module _ (n most : ℕ) (r : List ℕ) (h : n < 4294967296) (stops : span isDigi
   unfolding fieldOf numberOf
   printed-over k = rw (printed-span, take-append-seam (decimal n) r, drop-append-seam (decimal n) r, printed-well n h, spells n h .number, lt-ltb most n k)
 
--- a printed decimal is read back, at the end of a line and before a tab
-pub read-last : (n most : ℕ) → n < 4294967296 → n ≤ most → fieldOf (decimal n) most ≡ Last n
-unfolding span
-read-last n most h k = ap (λ (l : List ℕ). fieldOf l most) (sym (append-nil (decimal n))) ∙ printed-read n most [] h refl k
-
-pub read-more : (n most : ℕ) (r : List ℕ) → n < 4294967296 → n ≤ most → fieldOf (decimal n ++ (9 ∷ r)) most ≡ More n (length (decimal n) + 1)
-unfolding span isDigit
-read-more n most r h k = printed-read n most (9 ∷ r) h refl k
-
 -- at most ten digits
 short-by : (t : Bool) (k n : ℕ) → length (decimalIn k (n / 10)) ≤ k → length (pick t (digitOf n ∷ []) (decimalIn k (n / 10) ++ (digitOf n ∷ []))) ≤ suc k
 short-by true k n h = omega arith
 short-by false k n h = rw (length-append (decimalIn k (n / 10)) (digitOf n ∷ [])) (omega arith)
 
-short-in : (k n : ℕ) → length (decimalIn k n) ≤ k
+pub short-in : (k n : ℕ) → length (decimalIn k n) ≤ k
 unfolding decimalIn
 short-in zero n = omega arith
 short-in (suc k) n = short-by (ltb n 10) k n (short-in k (n / 10))
@@ -238,7 +225,8 @@ decimal-short n = short-in 10 n
 
 -- ---- what is written
 
-put-sets : (bs : List ℕ) (at : ℕ) (l : List ℕ) → at + length bs ≤ length l → putAll bs (written at l) ≡ written (at + length bs) (sets l at bs)
+-- they stand one behind the other, and the next place is behind them
+pub put-sets : (bs : List ℕ) (at : ℕ) (l : List ℕ) → at + length bs ≤ length l → putAll bs (written at l) ≡ written (at + length bs) (sets l at bs)
 unfolding putAll putByte
 put-sets [] at l h = let e : at + 0 ≡ at = omega arith in rw e
 put-sets (b ∷ bs) at l h =

@@ -1,7 +1,7 @@
 -- M7, whole: for every model, configuration, codes and lent tables the run, which checks soundness once, is the checked step
 -- folded over the codes. It may check once since every permitted step keeps soundness (M3, crate `law`).
 use Prim.Native.Nat.{ℕ}
-use mathlib.Core.Path.{_≡_, refl}
+use mathlib.Core.Path.{_≡_}
 use mathlib.Core.Bool.{true}
 use mathlib.Core.List.{List, []}
 use Rattle.terms.proofs.Meaning.{also-left, also-right, also-both}

@@ -13,7 +13,9 @@ use borrow.Author.Tests.{ltb-true, ltb-false, lt-ltb, le-leb, lt-leb, eq-eqb, ne
 use Rattle.terms.specs.Base.{pick, also}
 use Rattle.terms.proofs.Meaning.{also-left, also-right, also-both}
 use Rattle.model.specs.Fields.{either}
+use Rattle.model.specs.First.{firstFrom}
 use Rattle.model.specs.declared.records.Claim.{Claim}
+use Rattle.model.proofs.Tests.{also-never}
 use Rattle.state.specs.Ended.{endingsOf, firstEnded, secondEnded}
 use Rattle.state.specs.Control.{oneMore}
 use Rattle.state.specs.declared.ended.Ended.{Ended}
@@ -25,7 +27,7 @@ use Rattle.rules.specs.declared.event.Event.the-variants.{Jump, Launch, Reset, 
 use Rattle.rules.specs.declared.event.Happening.{Happening}
 use Rattle.machine.specs.Claim.{endedIn, acceptsOf, madeBy, madeIn, jumpBy, jumpsOf, beginsWith, someOf, pathOf, walkedIn, breaksClaim, firstBreakAfter, firstBreak, acceptsAll}
 use Rattle.machine.specs.Recorded.{isReal, Written, HoldsFrom, none, more, Holds, ShortPath}
-use Rattle.machine.specs.Judge.{anyFrom, firstFrom, sumFrom, acceptsAt, makingOp, makesAt, pathAt, followAt, followFrom, followsOn, fulfilsAt, walkedOn, breaksOn, brokenBy, breakBy, firstAccept, firstBreakOn, acceptsOn}
+use Rattle.machine.specs.Judge.{anyFrom, sumFrom, acceptsBy, makingOp, makesBy, pathAt, followBy, acceptsAt, makesAt, followAt, followFrom, followsOn, fulfilsAt, walkedOn, breaksOn, brokenBy, breakBy, firstAccept, firstBreakOn, acceptsOn}
 use Rattle.machine.proofs.Recording.{holds-add}
 
 -- what the numbers of a record say
@@ -57,14 +59,10 @@ module _ (n : Ended) where
   second-told (HandOver d j) = refl
   second-told (Action d op) = refl
 
--- two small facts of tests
+-- a test that picks its own answer
 pick-same : (b : Bool) → pick b true false ≡ b
 pick-same true = refl
 pick-same false = refl
-
-also-no : (b : Bool) → also b false ≡ false
-also-no true = refl
-also-no false = refl
 
 module _ (l : List ℕ) where
   at-record : {i : ℕ} {h : Happening} → Written l i h → (k : ℕ) → k < 12 → numberAt l i k ≡ told (h .event) (h .ended) k
@@ -75,9 +73,8 @@ module _ (l : List ℕ) where
   ends-at {i} {h} w = at-record w 9 (omega arith) ∙ ends-told (h .ended) (h .event)
 
   -- accepts
-  accepts-by : (n : Ended) (v : ℕ)
-      → pick (eqb (endingsOf n) 0) false (pick (eqb (firstEnded n) v) true (pick (eqb (endingsOf n) 1) false (eqb (secondEnded n) v)))
-      ≡ endedIn v n
+  accepts-by : (n : Ended) (v : ℕ) → acceptsBy (endingsOf n) (firstEnded n) (secondEnded n) v ≡ endedIn v n
+  unfolding acceptsBy
   accepts-by Nobody v = refl
   accepts-by (One p) v = pick-same (eqb p v)
   accepts-by (Two p q) v = refl
@@ -112,7 +109,7 @@ module _ (f : ℕ → Bool) where
       by true ih = refl
       by false ih = ih
 
-some-same : (f g : ℕ → Bool) → ((j : ℕ) → f j ≡ g j) → (xs : List ℕ) → someOf f xs ≡ someOf g xs
+pub some-same : (f g : ℕ → Bool) → ((j : ℕ) → f j ≡ g j) → (xs : List ℕ) → someOf f xs ≡ someOf g xs
 unfolding someOf
 some-same f g e [] = refl
 some-same f g e (x ∷ xs) = rw (e x, some-same f g e xs)
@@ -146,7 +143,7 @@ module _ (c : Claim) (f : ℕ → Bool) where
 
   -- op, machine and thread of a record
   makes-by : ℕ → ℕ → ℕ → Bool
-  makes-by op m j = also (also (eqb op (makingOp (c .kind))) (eqb m (c .machine))) (f j)
+  makes-by op m j = also (makesBy op m c) (f j)
 
   launch-op : (b p : Bool) → eqb (c .kind) 0 ≡ b → also (not b) p ≡ also (eqb 20 (makingOp (c .kind))) p
   unfolding makingOp
@@ -167,14 +164,14 @@ module _ (c : Claim) (f : ℕ → Bool) where
       by false = g
 
   other-made : (op m j : ℕ) → eqb op 20 ≡ false → eqb op 21 ≡ false → someOf f [] ≡ makes-by op m j
-  unfolding makes-by
+  unfolding makes-by makesBy
   other-made op m j g h = rw (other-op op g h) none-made
 
   not-op : (op k : ℕ) → 19 ≤ k → ltb op 19 ≡ true → eqb op k ≡ false
   not-op op k h e = let s : op < 19 = ltb-true op 19 e in ne-eqb op k (λ z. let t : op ≡ k = z in absurd (omega arith))
 
   made-told : (e : Event) (n : Ended) → isReal e ≡ true → someOf f (madeBy c e) ≡ makes-by (told e n 0) (told e n 7) (told e n 8)
-  unfolding told numbered makes-by
+  unfolding told numbered makes-by makesBy
   made-told (Jump d p) n r = other-made 19 0 0 refl refl
   made-told (Launch d m j) n r =
       one-made (also (not (eqb (c .kind) 0)) (eqb m (c .machine))) j
@@ -214,19 +211,14 @@ module _ (l : List ℕ) (c : Claim) (s : ShortPath c) (j : ℕ) where
       rw (lt-ltb k 4 g, add-one, ← a) (drop-cons (pathOf c) k 0 (omega (arith, path-long)))
 
   -- what a record does to thread j
-  step-by : ℕ → ℕ → ℕ → ℕ → ℕ
-  step-by op serial p k =
-      pick (leb (c .length) k) k
-      (pick (eqb op 19) (pick (eqb serial j) (pick (eqb p (pathAt c k)) (k % 255 + 1) 255) k) k)
-
   step-at : {i : ℕ} {h : Happening} → Written l i h → (k : ℕ)
-      → followAt l i j c k ≡ step-by (told (h .event) (h .ended) 0) (told (h .event) (h .ended) 1) (told (h .event) (h .ended) 6) k
-  unfolding followAt step-by
+      → followAt l i j c k ≡ followBy (told (h .event) (h .ended) 0) (told (h .event) (h .ended) 1) (told (h .event) (h .ended) 6) j c k
+  unfolding followAt
   step-at {i} {h} w k = rw (at-record l w 0 (omega arith), at-record l w 1 (omega arith), at-record l w 6 (omega arith))
 
   -- a thread that has left the path, or walked it, stays so
-  past-step : (op serial p k : ℕ) → c .length ≤ k → step-by op serial p k ≡ k
-  unfolding step-by
+  past-step : (op serial p k : ℕ) → c .length ≤ k → followBy op serial p j c k ≡ k
+  unfolding followBy
   past-step op serial p k h = rw (le-leb (c .length) k h)
 
   past-path : {i : ℕ} {hs : List Happening} → HoldsFrom l i hs → (k : ℕ) → c .length ≤ k → followFrom (length hs) i l j c k ≡ k
@@ -241,8 +233,8 @@ module _ (l : List ℕ) (c : Claim) (s : ShortPath c) (j : ℕ) where
   left-path r = rw (past-path r 255 (omega (arith, s .short))) (ne-eqb 255 (c .length) (λ z. let t : 255 ≡ c .length = z in absurd (omega (arith, s .short))))
 
   -- a record that is no jump of thread j, and one that is
-  stays : (op serial p k : ℕ) → eqb op 19 ≡ false → step-by op serial p k ≡ k
-  unfolding step-by
+  stays : (op serial p k : ℕ) → eqb op 19 ≡ false → followBy op serial p j c k ≡ k
+  unfolding followBy
   stays op serial p k e = rw e (by (leb (c .length) k))
     where
       by : (b : Bool) → pick b k k ≡ k
@@ -273,15 +265,15 @@ module _ (l : List ℕ) (c : Claim) (s : ShortPath c) (j : ℕ) where
         rw (z, one-begins k p js h, e) (on (k + 1) (omega arith))
     jump-by true false p e = rw (one-begins k p js h, e) left
 
-    jump-step : (serial p : ℕ) → F (step-by 19 serial p k) ≡ beginsWith (drop k (pathOf c)) (pick (eqb serial j) (p ∷ []) [] ++ js)
-    unfolding step-by
+    jump-step : (serial p : ℕ) → F (followBy 19 serial p j c k) ≡ beginsWith (drop k (pathOf c)) (pick (eqb serial j) (p ∷ []) [] ++ js)
+    unfolding followBy
     jump-step serial p = rw (lt-leb (c .length) k h) (jump-by (eqb serial j) (eqb p (pathAt c k)) p refl)
 
-    other-step : (op serial p : ℕ) → eqb op 19 ≡ false → F (step-by op serial p k) ≡ beginsWith (drop k (pathOf c)) js
+    other-step : (op serial p : ℕ) → eqb op 19 ≡ false → F (followBy op serial p j c k) ≡ beginsWith (drop k (pathOf c)) js
     other-step op serial p e = rw (stays op serial p k e) (on k (omega arith))
 
     event-step : (e : Event) (n : Ended) → isReal e ≡ true
-        → F (step-by (told e n 0) (told e n 1) (told e n 6) k) ≡ beginsWith (drop k (pathOf c)) (jumpBy j e ++ js)
+        → F (followBy (told e n 0) (told e n 1) (told e n 6) j c k) ≡ beginsWith (drop k (pathOf c)) (jumpBy j e ++ js)
     unfolding told numbered
     event-step (Jump d p) n r = jump-step (d .serial) p
     event-step (Launch d m i) n r = other-step 20 (d .serial) 0 refl
@@ -373,7 +365,7 @@ walked-stays c hs gs e =
 -- after that nothing breaks
 not-breaks : (c : Claim) (past : List Happening) (h : Happening) → walkedIn c past ≡ true → breaksClaim c past h ≡ false
 unfolding breaksClaim
-not-breaks c past h e = rw e (also-no (acceptsOf (c .program) h))
+not-breaks c past h e = rw e (also-never (acceptsOf (c .program) h))
 
 none-later : (c : Claim) (past hs : List Happening) → walkedIn c past ≡ true → firstBreakAfter c past hs ≡ 0
 unfolding firstBreakAfter

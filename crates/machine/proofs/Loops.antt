@@ -8,12 +8,11 @@ use native.Mathlib.Nat.{sub-add-eq, sub-eq-zero-of-le}
 use native.Mathlib.Omega.{arith}
 use lib.ListN.{length, getD, take, drop, length-take, drop-of-length-le}
 use lib.Seq.{drop-cons, getD-take}
-use Rattle.terms.specs.Base.{pick}
 use Rattle.model.specs.Fields.{either}
 use Rattle.model.specs.declared.records.Claim.{Claim}
 use Rattle.state.specs.declared.control.Control.{Control}
 use Rattle.rules.specs.Made.{Layout}
-use Rattle.machine.specs.Judge.{anyFrom, firstFrom, sumFrom, followAt, followFrom}
+use Rattle.machine.specs.Judge.{anyFrom, sumFrom, followAt, followFrom}
 use Rattle.machine.specs.Run.{ran, course, oneTurn, goBy, stepsFrom}
 
 -- a test that one of some numbers passes
@@ -28,19 +27,6 @@ any-more n i p h = rw (sub-add-eq, any-step (n - i) i p (omega arith))
 pub any-end : (n i : ℕ) (p : ℕ → Bool) → n ≤ i → anyFrom (n - i) i p ≡ false
 unfolding anyFrom
 any-end n i p h = rw sub-eq-zero-of-le
-
--- the first that passes
-first-step : (k i : ℕ) (p : ℕ → Bool) → 0 < k → firstFrom k i p ≡ pick (p i) i (firstFrom (k - 1) (i + 1) p)
-unfolding firstFrom
-first-step zero i p h = absurd (omega arith)
-first-step (suc k) i p h = rw sub-one
-
-pub first-more : (n i : ℕ) (p : ℕ → Bool) → i < n → firstFrom (n - i) i p ≡ pick (p i) i (firstFrom (n - (i + 1)) (i + 1) p)
-first-more n i p h = rw (sub-add-eq, first-step (n - i) i p (omega arith))
-
-pub first-end : (n i : ℕ) (p : ℕ → Bool) → n ≤ i → firstFrom (n - i) i p ≡ i
-unfolding firstFrom
-first-end n i p h = rw sub-eq-zero-of-le
 
 -- a sum
 sum-step : (k i : ℕ) (f : ℕ → ℕ) → 0 < k → sumFrom k i f ≡ f i + sumFrom (k - 1) (i + 1) f

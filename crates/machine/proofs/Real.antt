@@ -31,6 +31,7 @@ use Rattle.state.specs.declared.control.Frame.{Frame}
 use Rattle.state.specs.declared.control.Control.{Control}
 use Rattle.state.proofs.Threads.{never}
 use Rattle.state.proofs.Turned.{lets-iff}
+use Rattle.state.proofs.Frame.{one-more}
 use Rattle.rules.specs.Happened.{advanceShown, advanceEvent, handEvent, happenedBy, happenedOn}
 use Rattle.rules.specs.Made.{Layout, Config, configOf, jumpedOn, actedOn, launchedOn, resetOn, handedOn, advancedBy, advancedOn, madeBy, madeOn, controlAfter}
 use Rattle.rules.specs.Step.{stepped, refusedStep, goWorked, goOn, stepOn}
@@ -101,10 +102,6 @@ after-steps : (s : Control) (g : Layout) (code : ℕ) (r : Labels) → notCode (
 unfolding controlAfter madeOn
 after-steps s g code r h = way-steps g (configOf s) (wayOf code) (r .x) (r .result) (r .program) h
 
-one-more : (n : ℕ) → n < 60000 → oneMore n ≡ n + 1
-unfolding oneMore
-one-more n h = rw (lt-ltb n 65535 (omega arith))
-
 -- what refusals 1 to 7 have let through
 pub let-code : (g : Sight) (w : Way) → NoneHolds (reasons g w) → notCode w ≡ false
 let-code g w (next p rest) = p
@@ -124,7 +121,7 @@ module _ (l : List ℕ) (s : Control) (small : s .count ≤ 512) (zeros : ZeroPa
   unfolding controlAfter
   worked-step code h n B.refused = refused
   worked-step code h n (B.done {m} {r} grown) =
-      permitted grown (happened-real g ops (s .frame) code r) n (after-steps s g code r h ∙ one-more (s .frame .steps) n)
+      permitted grown (happened-real g ops (s .frame) code r) n (after-steps s g code r h ∙ one-more (s .frame .steps) (omega (arith, n)))
 
   go-step : (code : ℕ) → notCode (wayOf code) ≡ false → s .frame .steps < 60000 → Stepping l s (goOn l s g code)
   unfolding goOn

@@ -5,7 +5,7 @@ use mathlib.Core.Bool.{Bool, true, false}
 use mathlib.Core.List.{List, [], _∷_, _++_}
 use native.Mathlib.Nat.{add-zero, zero-add}
 use native.Mathlib.Omega.{arith}
-use lib.ListN.{length, getD, take, set, length-set}
+use lib.ListN.{length, getD, set, length-set}
 use lib.Seq.{sets, length-sets, getD-set-same, getD-set-other}
 use lib.Dec.{ltb}
 use borrow.Author.Tests.{le-ltb}
@@ -19,16 +19,16 @@ use Rattle.rules.specs.declared.event.Record.{Record}
 use Rattle.machine.specs.Recorded.{isReal, Written, HoldsFrom, none, more, Holds}
 
 -- numbers stored one after another: those below, those past them, and themselves
-sets-below : (vs l : List ℕ) (i p : ℕ) → p < i → getD (sets l i vs) p 0 ≡ getD l p 0
+pub sets-below : (vs l : List ℕ) (i p : ℕ) → p < i → getD (sets l i vs) p 0 ≡ getD l p 0
 sets-below [] l i p h = refl
 sets-below (v ∷ vs) l i p h = sets-below vs (set l i v) (suc i) p (omega arith) ∙ getD-set-other l i p v 0 (λ z. let y : p ≡ i = z in absurd (omega arith))
 
-sets-past : (vs l : List ℕ) (i p : ℕ) → i + length vs ≤ p → getD (sets l i vs) p 0 ≡ getD l p 0
+pub sets-past : (vs l : List ℕ) (i p : ℕ) → i + length vs ≤ p → getD (sets l i vs) p 0 ≡ getD l p 0
 sets-past [] l i p h = refl
 sets-past (v ∷ vs) l i p h =
     sets-past vs (set l i v) (suc i) p (omega arith) ∙ getD-set-other l i p v 0 (λ z. let y : p ≡ i = z in absurd (omega arith))
 
-sets-at : (vs l : List ℕ) (i k : ℕ) → k < length vs → i + length vs ≤ length l → getD (sets l i vs) (i + k) 0 ≡ getD vs k 0
+pub sets-at : (vs l : List ℕ) (i k : ℕ) → k < length vs → i + length vs ≤ length l → getD (sets l i vs) (i + k) 0 ≡ getD vs k 0
 sets-at [] l i k h g = absurd (omega arith)
 sets-at (v ∷ vs) l i zero h g =
     let z : i + 0 ≡ i = omega arith in
@@ -85,12 +85,6 @@ holds-snoc {l} {h = g} (more {i} {h} {hs} v r) w =
 
 pub holds-add : {l : List ℕ} {hs : List Happening} {h : Happening} → Holds l hs → Written l (length hs) h → Holds l (hs ++ (h ∷ []))
 holds-add {l} {hs} {h} r w = holds-snoc r (subst (λ (x : ℕ). Written l x h) (sym (zero-add (length hs))) w)
-
--- the first events alone
-pub holds-take : {l : List ℕ} {i : ℕ} {hs : List Happening} (n : ℕ) → HoldsFrom l i hs → HoldsFrom l i (take n hs)
-holds-take zero r = none
-holds-take (suc n) none = none
-holds-take (suc n) (more w r) = more w (holds-take n r)
 
 pub holds-front : {l : List ℕ} {i : ℕ} (hs gs : List Happening) → HoldsFrom l i (hs ++ gs) → HoldsFrom l i hs
 holds-front [] gs r = none

@@ -8,6 +8,7 @@ use lib.ListN.{getD}
 use lib.Dec.{eqb, ltb, leb}
 use Rattle.terms.specs.Base.{pick, also}
 use Rattle.model.specs.Fields.{either}
+use Rattle.model.specs.First.{firstFrom}
 use Rattle.model.specs.declared.records.Claim.{Claim}
 use Rattle.state.specs.Control.{oneMore}
 use Rattle.state.specs.declared.ended.Ended.{Ended}
@@ -19,45 +20,51 @@ unfoldable pub anyFrom : ℕ → ℕ → (ℕ → Bool) → Bool
 anyFrom zero i p = false
 anyFrom (suc n) i p = either (p i) (anyFrom n (i + 1) p)
 
--- the first of n numbers from i on of which the test holds, the number after them where there is none
-unfoldable pub firstFrom : ℕ → ℕ → (ℕ → Bool) → ℕ
-firstFrom zero i p = i
-firstFrom (suc n) i p = pick (p i) i (firstFrom n (i + 1) p)
-
 -- what f gives of n numbers from i on, added up
 unfoldable pub sumFrom : ℕ → ℕ → (ℕ → ℕ) → ℕ
 sumFrom zero i f = 0
 sumFrom (suc n) i f = f i + sumFrom n (i + 1) f
 
--- record i has an accept of program v
-unfoldable pub acceptsAt : List ℕ → ℕ → ℕ → Bool
-acceptsAt l i v =
-    pick (eqb (numberAt l i 9) 0) false
-    (pick (eqb (numberAt l i 10) v) true
-    (pick (eqb (numberAt l i 9) 1) false
-    (eqb (numberAt l i 11) v)))
+-- What the numbers of one event say of a claim: "the program of any thread that ended .. That ending is an accept of that
+-- program", of so many endings in these programs.
+unfoldable pub acceptsBy : ℕ → ℕ → ℕ → ℕ → Bool
+acceptsBy endings first second v =
+    pick (eqb endings 0) false
+    (pick (eqb first v) true
+    (pick (eqb endings 1) false
+    (eqb second v)))
 
 -- 21 is a reset, 20 a late launch
 unfoldable pub makingOp : ℕ → ℕ
 makingOp kind = pick (eqb kind 0) 21 20
 
--- record i makes a thread for the claim
-unfoldable pub makesAt : List ℕ → ℕ → Claim → Bool
-makesAt l i c = also (eqb (numberAt l i 0) (makingOp (c .kind))) (eqb (numberAt l i 7) (c .machine))
+-- a thread is made for the claim
+unfoldable pub makesBy : ℕ → ℕ → Claim → Bool
+makesBy op m c = also (eqb op (makingOp (c .kind))) (eqb m (c .machine))
 
 -- place k of the path
 unfoldable pub pathAt : Claim → ℕ → ℕ
 pathAt c k = pick (ltb k 4) (getD (c .path) k 0) 0
 
--- how far along the path thread j is after record i, k before it: a jump (19) to the next program of the path, to another
--- (255: it has left the path), or no jump
-unfoldable pub followAt : List ℕ → ℕ → ℕ → Claim → ℕ → ℕ
-followAt l i j c k =
+-- how far along the path thread j is, k before: a jump (19) to the next program of the path, to another (255: it has left
+-- the path), or no jump of j
+unfoldable pub followBy : ℕ → ℕ → ℕ → ℕ → Claim → ℕ → ℕ
+followBy op serial p j c k =
     pick (leb (c .length) k) k
-    (pick (eqb (numberAt l i 0) 19)
-    (pick (eqb (numberAt l i 1) j)
-    (pick (eqb (numberAt l i 6) (pathAt c k)) (k % 255 + 1) 255)
+    (pick (eqb op 19)
+    (pick (eqb serial j)
+    (pick (eqb p (pathAt c k)) (k % 255 + 1) 255)
     k) k)
+
+-- the same of record i
+unfoldable pub acceptsAt : List ℕ → ℕ → ℕ → Bool
+acceptsAt l i v = acceptsBy (numberAt l i 9) (numberAt l i 10) (numberAt l i 11) v
+
+unfoldable pub makesAt : List ℕ → ℕ → Claim → Bool
+makesAt l i c = makesBy (numberAt l i 0) (numberAt l i 7) c
+
+unfoldable pub followAt : List ℕ → ℕ → ℕ → Claim → ℕ → ℕ
+followAt l i j c k = followBy (numberAt l i 0) (numberAt l i 1) (numberAt l i 6) j c k
 
 -- after n records from i on
 unfoldable pub followFrom : ℕ → ℕ → List ℕ → ℕ → Claim → ℕ → ℕ

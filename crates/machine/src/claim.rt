@@ -1,5 +1,8 @@
 // The claim, judged over the records of a run. A step breaks it if it has an accept of the claim's program and no thread
 // made for the claim, by an earlier event, has in earlier events first jumped along the path.
+use crate::judge::accepts_by;
+use crate::judge::follow_by;
+use crate::judge::makes_by;
 use model::records::Claim;
 use rules::event::Record;
 use rules::event::number_at;
@@ -7,7 +10,7 @@ use state::control::one_more;
 use state::ended::Ended;
 ghost use mathlib.Core.Path.{_≡_};
 ghost use Rattle.machine.specs.Claim.{endedIn};
-ghost use Rattle.machine.specs.Judge.{acceptsAt, makingOp, makesAt, pathAt, followAt, followsOn, fulfilsAt, walkedOn, breaksOn, brokenBy, firstAccept, firstBreakOn, acceptsOn};
+ghost use Rattle.machine.specs.Judge.{acceptsAt, makesAt, followAt, followsOn, fulfilsAt, walkedOn, breaksOn, brokenBy, firstAccept, firstBreakOn, acceptsOn};
 
 // Record n breaks the claim, the n records before it being what is earlier.
 pub fn breaks(records: &[u16], n: u16, c: Claim) -> bool
@@ -73,19 +76,9 @@ pub fn accepts(records: &[u16], i: u16, program: u8) -> bool
     ensures { λ r. ⌜ r ≡ acceptsAt (now (records .entry)) i program ⌝ }
 {
     let endings = number_at(records, i, Record::ENDINGS);
-    if endings == 0 {
-        return false;
-    }
-    let p = program as u16;
     let first = number_at(records, i, Record::FIRST);
-    if first == p {
-        return true;
-    }
-    if endings == 1 {
-        return false;
-    }
     let second = number_at(records, i, Record::SECOND);
-    second == p
+    accepts_by(endings, first, second, program)
 }
 
 // Among the first n events one made a thread for the claim whose first jumps are the path.
@@ -112,23 +105,13 @@ fn fulfils(records: &[u16], n: u16, i: u16, c: Claim) -> bool
     follows(records, n, thread, c)
 }
 
-// A reset (kind 1: a late launch) of the claim's machine.
+// Record i made a thread for the claim.
 fn makes(records: &[u16], i: u16, c: Claim) -> bool
     ensures { λ r. ⌜ r ≡ makesAt (now (records .entry)) i c ⌝ }
 {
     let op = number_at(records, i, Record::OP);
-    let making = making_op(c.kind);
-    if op != making {
-        return false;
-    }
     let machine = number_at(records, i, Record::MACHINE);
-    machine == c.machine as u16
-}
-
-pub fn making_op(kind: u8) -> u16
-    ensures { λ r. ⌜ r ≡ makingOp kind ⌝ }
-{
-    if kind == 0 { 21 } else { 20 }
+    makes_by(op, machine, c)
 }
 
 // The first jumps of a thread among n events begin with the path.
@@ -144,36 +127,14 @@ fn follows(records: &[u16], n: u16, serial: u16, c: Claim) -> bool
     at == c.length
 }
 
-// How far along the path the thread is after record i: a jump to the next program of the path, to another, or no jump.
+// How far along the path the thread is after record i.
 fn follow(records: &[u16], i: u16, serial: u16, c: Claim, at: u8) -> u8
     ensures { λ r. ⌜ r ≡ followAt (now (records .entry)) i serial c at ⌝ }
 {
-    if c.length <= at {
-        return at;
-    }
     let op = number_at(records, i, Record::OP);
-    if op != 19 {
-        return at;
-    }
     let mover = number_at(records, i, Record::SERIAL);
-    if mover != serial {
-        return at;
-    }
     let program = number_at(records, i, Record::PROGRAM);
-    let next = path_at(c, at) as u16;
-    if program == next {
-        at % 255 + 1
-    } else {
-        Claim::LEFT
-    }
-}
-
-pub fn path_at(c: Claim, at: u8) -> u8
-    ensures { λ r. ⌜ r ≡ pathAt c at ⌝ }
-{
-    let path = c.path;
-    let i = at as usize;
-    if i < 4 { path[i] } else { 0 }
+    follow_by(op, mover, program, serial, c, at)
 }
 
 // Accepts of any program in n records.

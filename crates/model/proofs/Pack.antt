@@ -1,10 +1,9 @@
 -- What is packed into a number is read out of it again, and what is read out of a number fits its place.
 use Prim.Native.Nat.{ℕ, _+_, _*_, _/_, _%_, _<_, _≤_}
-use mathlib.Core.Path.{_≡_, refl, sym, ap, _∙_}
-use mathlib.Core.Bool.{Bool, true, false}
+use mathlib.Core.Path.{_≡_, sym, ap, _∙_}
 use native.Mathlib.Omega.{arith}
-use lib.Dec.{eqb}
 use Rattle.terms.specs.Line.{bitOf}
+use Rattle.terms.proofs.Pack.{bit-small, bit-read}
 use Rattle.model.specs.Records.{packAction, actionIn, packMachine, machineIn, packLocation, locationIn, packThread, threadIn}
 use Rattle.model.specs.declared.records.Action.{Action}
 use Rattle.model.specs.declared.records.Machine.{Machine}
@@ -31,14 +30,6 @@ pub record SmallThread (l : Listed) : Type 0 where
   pub agent : l .agent < 65536
   pub machine : l .machine < 256
   pub program : l .program < 256
-
-bit-small : (t : Bool) → bitOf t ≤ 1
-bit-small true = omega arith
-bit-small false = omega arith
-
-bit-read : (t : Bool) → eqb (bitOf t) 1 ≡ t
-bit-read true = refl
-bit-read false = refl
 
 pub action-packed : (a : Action) → SmallAction a → actionIn (packAction a) ≡ a
 unfolding packAction actionIn
@@ -78,19 +69,7 @@ thread-packed l s =
     let p : n % 256 ≡ l .program = omega arith in
     rw (a, m, p)
 
--- what is read out of a number always fits
-pub action-small : (n : ℕ) → SmallAction (actionIn n)
-unfolding actionIn
-action-small n = record { op = omega arith; loc = omega arith; x = omega arith; y = omega arith }
-
-pub machine-small : (n : ℕ) → SmallMachine (machineIn n)
-unfolding machineIn
-machine-small n = record { boot = omega arith; launch = omega arith }
-
-pub location-small : (n : ℕ) → SmallLocation (locationIn n)
-unfolding locationIn
-location-small n = record { machine = omega arith; kind = omega arith; value = omega arith }
-
+-- what is read out of a number fits its place
 pub thread-small : (n : ℕ) → SmallThread (threadIn n)
 unfolding threadIn
 thread-small n = record { agent = omega arith; machine = omega arith; program = omega arith }

@@ -6,7 +6,6 @@ use mathlib.Core.List.{List, [], _∷_}
 use mathlib.Core.Path.{_≡_, refl, ap, subst, _∙_}
 use native.Mathlib.Omega.{arith}
 use lib.ListN.{length}
-use Rattle.terms.specs.Base.{Held}
 use Rattle.model.specs.declared.records.Model.{Model}
 use Rattle.state.proofs.Threads.{never}
 use Rattle.audit.specs.Models.{soundModel}
@@ -17,19 +16,18 @@ use Rattle.walk.specs.Trail.{Mark, plain, sized, bad, Try, badIn, sizedIn, size
 use Rattle.walk.specs.Array.{Spot, view}
 use Rattle.walk.specs.Passed.{passing}
 use Rattle.walk.specs.List.{Close, full, spent, done, Listed, Closes, no-room, used-up, no-more, ListPassed, listIn, listAll}
-use Rattle.walk.proofs.List.{listSeen, list-passes}
+use Rattle.walk.proofs.ListPasses.{listSeen, list-passes}
 use Rattle.search.specs.Labels.{labels}
 use Rattle.search.specs.Place.{startPlace}
 use Rattle.search.specs.Answer.{roomFor}
-use Rattle.search.specs.Search.{boundFits, listingOn}
+use Rattle.search.specs.Search.{boundFits}
 use Rattle.search.specs.Shown.{placeAt, tidied, kindOf, GoodPlace, GoodBudget, Arrays}
 use Rattle.search.specs.declared.place.Place.{Place}
-use Rattle.search.specs.declared.answer.Listing.{Listing}
 use Rattle.search.proofs.Codes.{labels-coded}
 use Rattle.search.proofs.Joined.{bound-parts}
 use Rattle.search.proofs.Searched.{tidied-ok}
 use Rattle.search.proofs.Promises.{start-good}
-use Rattle.search.proofs.Listings.{listing-shows, next-good, words-short, whole-here, whole-on}
+use Rattle.search.proofs.Listings.{place-is, listing-shows, next-good, words-short, whole-here, whole-on}
 use Rattle.pages.specs.ListPage.{goesOn}
 use Rattle.pages.specs.Listing.{listPrinted, Whole, whole, wholeThen, wholeText}
 use Rattle.pages.proofs.Printed.{Short}
@@ -86,9 +84,6 @@ module _ (m : Model) (arrays : Arrays m) (sound : soundModel m ≡ true) (n : �
     abbrev l : Listed Spot
     l = listIn (labels m) n (roomFor room) b (tidied p)
 
-    place-is : listingOn m n p b room .out .place ≡ placeAt (l .place)
-    place-is = ap (λ (r : Held Listing). r .out .place) (listing-shows m arrays sound n bound p b room (g .0) (g .1))
-
     passed : ListPassed (labels m) n b (roomFor room) (passing (labels m) n (view (tidied p))) (listSeen view l)
     passed = list-passes (labels m) (labels-coded m) n 24 (bound-parts n bound .1) (roomFor room) b (tidied p) (tidied-ok m arrays sound n bound p (g .0))
 
@@ -101,7 +96,8 @@ module _ (m : Model) (arrays : Arrays m) (sound : soundModel m ≡ true) (n : �
     on : goesOn (kindOf (l .close)) ≡ true → all p b ≡ wholeThen (l .words) (l .tries) (l .sizes) (all (placeAt (l .place)) (b - l .tries))
     on e =
         ap shown (whole-on m arrays sound n bound p b room (g .0) (g .1) (close-full (l .close) e))
-        ∙ ap (λ (q : Place). wholeThen (l .words) (l .tries) (l .sizes) (all q (b - l .tries))) place-is
+        ∙ ap (λ (q : Place). wholeThen (l .words) (l .tries) (l .sizes) (all q (b - l .tries)))
+        (place-is m arrays sound n bound p b room (g .0) (g .1))
 
     next : Next m n Good all p b room
     next = record {
@@ -115,7 +111,9 @@ module _ (m : Model) (arrays : Arrays m) (sound : soundModel m ≡ true) (n : �
       short = short-all n (l .words) (bound-parts n bound .1) (words-short m arrays sound n bound p b room (g .0) (g .1));
       spent = omega (arith, passed .tries, passed .within);
       sized = omega (arith, passed .sizes, passed .tries, sized-few (passed .past));
-      good = λ e. (subst (GoodPlace m n) place-is (next-good m arrays sound n bound p b room (g .0) (g .1)), omega (arith, g .1));
+      good = λ e.
+          let h = subst (GoodPlace m n) (place-is m arrays sound n bound p b room (g .0) (g .1)) (next-good m arrays sound n bound p b room (g .0) (g .1)) in
+          (h, omega (arith, g .1));
       on = on;
       here = λ e. ap shown (whole-here m arrays sound n bound p b room (g .0) (g .1) (close-open (l .close) e));
     }

@@ -1,16 +1,12 @@
 -- What a page shows: a room in which schedules were put shows the line of each, in order. "bad: length, codes".
-use Prim.Native.Nat.{ℕ, zero, suc, _+_, _*_, _-_, _<_, _≤_}
-use mathlib.Core.Bool.{Bool, true, false}
+use Prim.Native.Nat.{ℕ, suc, _+_, _*_, _-_, _<_, _≤_}
 use mathlib.Core.List.{List, [], _∷_}
 use mathlib.Core.Path.{_≡_, refl, ap, _∙_}
 use native.Mathlib.Omega.{arith}
-use lib.ListN.{length, getD, set, replicate, length-set, length-append, length-replicate, List·getD-append}
-use lib.Seq.{sets, length-sets, getD-set-same, getD-set-other}
-use lib.Dec.{ltb}
-use borrow.Author.Tests.{le-ltb}
-use Rattle.terms.specs.Base.{pick}
+use lib.ListN.{length, getD, replicate, List·getD-append}
 use Rattle.lines.specs.Base.{byteAt}
 use Rattle.search.specs.Shown.{padded, wordPut, wordsPut}
+use Rattle.search.proofs.InRoom.{put-long, put-at, rows-below}
 use Rattle.pages.specs.ListText.{codesText, scheduleLine, schedulesText, codesLine, badLine, badLines}
 
 -- place at of the room holds a schedule: its length, its codes behind it
@@ -52,71 +48,25 @@ unfolding schedulesText badLines HoldsWords
 lines-shown [] room i h = refl
 lines-shown (w ∷ ws) room i h = rw (line-shown room (i * 25) w (h .0), lines-shown ws room (i + 1) (h .1))
 
--- what stands in a room after a row of bytes is put there
-sets-below : (vs l : List ℕ) (i p : ℕ) → p < i → getD (sets l i vs) p 0 ≡ getD l p 0
-sets-below [] l i p h = refl
-sets-below (v ∷ vs) l i p h = sets-below vs (set l i v) (suc i) p (omega arith) ∙ getD-set-other l i p v 0 (λ z. let y : p ≡ i = z in absurd (omega arith))
-
-sets-at : (vs l : List ℕ) (i k : ℕ) → k < length vs → i + length vs ≤ length l → getD (sets l i vs) (i + k) 0 ≡ getD vs k 0
-sets-at [] l i k h g = absurd (omega arith)
-sets-at (v ∷ vs) l i zero h g =
-    let z : i + 0 ≡ i = omega arith in
-    rw z (sets-below vs (set l i v) (suc i) i (omega arith) ∙ getD-set-same l i v 0 (omega arith))
-sets-at (v ∷ vs) l i (suc k) h g =
-    let z : i + suc k ≡ suc i + k = omega arith in
-    rw z (sets-at vs (set l i v) (suc i) k (omega arith) (omega (arith, length-set l i v)))
-
-padded-long : (w : List ℕ) → length w ≤ 24 → length (padded w) ≡ 24
-unfolding padded
-padded-long w h = length-append w (replicate (24 - length w) 0) ∙ omega (arith, length-replicate {A = ℕ} (24 - length w) 0)
-
 padded-at : (w : List ℕ) (k : ℕ) → k < length w → getD (padded w) k 0 ≡ getD w k 0
 unfolding padded
 padded-at w k h = List·getD-append w (replicate (24 - length w) 0) 0 k h
 
-module _ (l : List ℕ) (i : ℕ) (w : List ℕ) where
-  put-long : length (wordPut l i w) ≡ length l
-  unfolding wordPut
-  put-long = by (ltb (length l) (i * 25 + 25))
-    where
-      by : (b : Bool) → length (pick b l (sets l (i * 25) (length w ∷ padded w))) ≡ length l
-      by true = refl
-      by false = length-sets l (i * 25) (length w ∷ padded w)
-
-  put-below : (p : ℕ) → p < i * 25 → getD (wordPut l i w) p 0 ≡ getD l p 0
-  unfolding wordPut
-  put-below p h = by (ltb (length l) (i * 25 + 25))
-    where
-      by : (b : Bool) → getD (pick b l (sets l (i * 25) (length w ∷ padded w))) p 0 ≡ getD l p 0
-      by true = refl
-      by false = sets-below (length w ∷ padded w) l (i * 25) p h
-
-  put-at : i * 25 + 25 ≤ length l → length w ≤ 24 → (k : ℕ) → k < 25 → getD (wordPut l i w) (i * 25 + k) 0 ≡ getD (length w ∷ padded w) k 0
-  unfolding wordPut
-  put-at g s k h =
-      rw (le-ltb (length l) (i * 25 + 25) g)
-      (sets-at (length w ∷ padded w) l (i * 25) k (omega (arith, padded-long w s)) (omega (arith, padded-long w s)))
-
-  -- a schedule put in the room is held there
-  pub put-holds : i * 25 + 25 ≤ length l → length w ≤ 24 → HoldsWord (wordPut l i w) (i * 25) w
-  put-holds g s =
-      let z : i * 25 + 0 ≡ i * 25 = omega arith in
-      record {
-        long = rw z at (put-at g s 0 (omega arith));
-        codes = λ k h.
-            let e : i * 25 + (k + 1) ≡ i * 25 + suc k = omega arith in
-            ap (byteAt (wordPut l i w)) e ∙ put-at g s (suc k) (omega arith) ∙ padded-at w k h;
-      }
+-- a schedule put in the room is held there
+pub put-holds : (l : List ℕ) (i : ℕ) (w : List ℕ) → i * 25 + 25 ≤ length l → length w ≤ 24 → HoldsWord (wordPut l i w) (i * 25) w
+put-holds l i w g s =
+    let z : i * 25 + 0 ≡ i * 25 = omega arith in
+    record {
+      long = rw z at (put-at l i w 0 s g (omega arith));
+      codes = λ k h.
+          let e : i * 25 + (k + 1) ≡ i * 25 + suc k = omega arith in
+          ap (byteAt (wordPut l i w)) e ∙ put-at l i w (suc k) s g (omega arith) ∙ padded-at w k h;
+    }
 
 pub words-long : (ws : List (List ℕ)) (l : List ℕ) (i : ℕ) → length (wordsPut l i ws) ≡ length l
 unfolding wordsPut
 words-long [] l i = refl
 words-long (w ∷ ws) l i = words-long ws (wordPut l i w) (i + 1) ∙ put-long l i w
-
-words-below : (ws : List (List ℕ)) (l : List ℕ) (i p : ℕ) → p < i * 25 → getD (wordsPut l i ws) p 0 ≡ getD l p 0
-unfolding wordsPut
-words-below [] l i p h = refl
-words-below (w ∷ ws) l i p h = words-below ws (wordPut l i w) (i + 1) p (omega arith) ∙ put-below l i w p h
 
 -- the room holds the schedules that were put there, where it takes them all
 pub words-hold : (ws : List (List ℕ)) (l : List ℕ) (i : ℕ) → (i + length ws) * 25 ≤ length l → Short ws → HoldsWords (wordsPut l i ws) i ws
@@ -125,7 +75,7 @@ words-hold [] l i g s = tt
 words-hold (w ∷ ws) l i g s =
     let h : HoldsWord (wordPut l i w) (i * 25) w = put-holds l i w (omega arith) (s .0) in
     let m : List ℕ = wordPut l i w in
-    let keeps : (p : ℕ) → p < (i + 1) * 25 → getD (wordsPut m (i + 1) ws) p 0 ≡ getD m p 0 = words-below ws m (i + 1) in
+    let keeps : (p : ℕ) → p < (i + 1) * 25 → getD (wordsPut m (i + 1) ws) p 0 ≡ getD m p 0 = rows-below ws m (i + 1) in
     let first : HoldsWord (wordsPut m (i + 1) ws) (i * 25) w =
     record {
       long = keeps (i * 25) (omega arith) ∙ h .long;

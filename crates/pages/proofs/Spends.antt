@@ -27,8 +27,8 @@ use Rattle.search.specs.Place.{levelOf, atCode, pushed}
 use Rattle.search.specs.Answer.{refusedListing, roomFor}
 use Rattle.search.specs.Enter.{controlAt, inBounds, Climbed, enterOn}
 use Rattle.search.specs.Turn.{between, reached, closed, past, standsAt, still, Lent, lent, Sheets, triedWith, seeking, turnOn}
-use Rattle.search.specs.Search.{Scene, scene, sheetsOf, quietAt, passesSoon, passesLate, spentAll, pastLate, enteredBy, deepAt, deepsOf, turnedOn, walkIn, walkOn, goingOn}
-use Rattle.search.specs.Search.{firstWalk, walkFrom, task, boundFits, listingWalked, listingEntered, listingOn}
+use Rattle.search.specs.Search.{Scene, scene, sheetsOf, quietAt, passesSoon, passesLate, spentAll, enteredBy, deepAt, deepsOf, turnedOn}
+use Rattle.search.specs.Search.{walkIn, walkOn, goingOn, firstWalk, walkFrom, task, boundFits, listingWalked, listingEntered, listingOn}
 use Rattle.search.specs.declared.place.Place.{Place}
 use Rattle.search.specs.declared.answer.Kind.the-variants.{Stop, End}
 use Rattle.search.specs.declared.answer.Listing.{Listing}
@@ -114,17 +114,6 @@ all-spends : (n : ℕ) (w : Walk) → w .left < n → Spent n (spentAll w)
 unfolding spentAll goesOn
 all-spends n w h = stop-spends n (spentAll w) (omega arith) refl
 
-late-by : (b : Bool) (n : ℕ) (v w : Walk) → Spent n v → Spent n w → Spent n (pick b v w)
-late-by true n v w p q = p
-late-by false n v w p q = q
-
-late-spends : (n : ℕ) (w : Walk) (p : Place) (count : ℕ) (quiet : Bool) (t slots values vars actions : List ℕ) → w .left < n
-    → Spent n (pastLate w p count quiet t slots values vars actions)
-unfolding pastLate
-late-spends n w p count quiet t slots values vars actions h =
-    late-by (passesLate quiet t slots values vars actions) n (spentAll w) (standsAt w (w .found) p count true) (all-spends n w h)
-    (less-spends n (standsAt w (w .found) p count true) h)
-
 scene-by : (b : Bool) (n : ℕ) (x y : Scene) → (b ≡ true → Spent n (x .walk)) → Spent n (y .walk) → Spent n (pick b x y .walk)
 scene-by true n x y f g = f refl
 scene-by false n x y f g = g
@@ -134,16 +123,17 @@ module _ (m : Model) (k : Task) where
   entered-scene : (n : ℕ) (quiet : Bool) (r : Lent Turned) (p : Place) (h : Happening) (c : Control) (d level : ℕ) (stack : List Control) (deeps : List ℕ)
       → r .out .walk .left < n → Spent n (enteredBy m k quiet r p h c d level stack deeps .walk)
   entered-scene n quiet r p h c d level stack deeps less =
-      scene-by (passesSoon quiet d (k .listed)) n (scene (spentAll (r .out .walk)) stack deeps (r .table) (r .records) (r .room))
-      (scene
-      (pastLate (r .out .walk) (pushed p (r .out .code)) (r .out .labels .count) quiet (r .table) (c .frame .slots) (c .values) (c .vars) (m .actions))
-      (set stack (level + 1) c)
-      (set deeps (level + 1) d)
-      (r .table)
-      (recordPut (r .records) (p .length) (recordOf h))
-      (r .room))
-      (λ e. all-spends n (r .out .walk) less)
-      (late-spends n (r .out .walk) (pushed p (r .out .code)) (r .out .labels .count) quiet (r .table) (c .frame .slots) (c .values) (c .vars) (m .actions) less)
+      let w : Walk = r .out .walk in
+      let v : Walk = standsAt w (w .found) (pushed p (r .out .code)) (r .out .labels .count) true in
+      let kept : List Control = set stack (level + 1) c in
+      let deep : List ℕ = set deeps (level + 1) d in
+      let late : Bool = passesLate quiet (r .table) (c .frame .slots) (c .values) (c .vars) (m .actions) in
+      let y : Scene = scene (spentAll w) kept deep (r .table) (r .records) (r .room) in
+      let z : Scene = scene v kept deep (r .table) (recordPut (r .records) (p .length) (recordOf h)) (r .room) in
+      scene-by (passesSoon quiet d (k .listed) (r .table) (c .frame .slots) (m .actions)) n
+      (scene (spentAll w) stack deeps (r .table) (r .records) (r .room)) (pick late y z)
+      (λ e. all-spends n w less)
+      (scene-by late n y z (λ e. all-spends n w less) (less-spends n v less))
 
   turned-spends : (x : Scene) → Spent (x .walk .left) (turnedOn m k x .walk)
   unfolding turnedOn

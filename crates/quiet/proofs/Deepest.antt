@@ -7,7 +7,7 @@ use native.Mathlib.Numerals.{sub-one}
 use native.Mathlib.Nat.{sub-add-eq, sub-eq-zero-of-le}
 use native.Mathlib.Omega.{arith}
 use lib.Dec.{ltb, eqb}
-use borrow.Author.Tests.{ltb-true, ltb-false, eqb-true, eqb-false, lt-ltb, le-ltb}
+use borrow.Author.Tests.{ltb-true, ltb-false, eqb-true, eqb-false}
 use Rattle.terms.specs.Base.{pick}
 use Rattle.terms.specs.Line.{depthAt}
 use Rattle.terms.specs.Grade.{deeperOf}

@@ -1,5 +1,5 @@
--- When the operands of every live thread are at most 15 deep, and the value that an extend takes too; and two tests, each of which
--- tells that they are.
+-- When the operands of every live thread are at most 15 deep, and the value that an extend takes too; and three tests, each of
+-- which tells that they are.
 use Prim.Native.Nat.{ℕ, zero, suc, _+_, _*_, _<_, _≤_}
 use mathlib.Core.Path.{_≡_, refl, sym, ap, _∙_}
 use mathlib.Core.Bool.{Bool, true, false, not}
@@ -7,24 +7,28 @@ use mathlib.Core.List.{List}
 use native.Mathlib.Omega.{arith}
 use lib.ListN.{getD}
 use lib.Dec.{eqb, ltb, leb}
-use borrow.Author.Tests.{ltb-true, ltb-false, leb-true, eq-eqb, not-true}
+use borrow.Author.Tests.{ltb-true, ltb-false, leb-true, eq-eqb, not-true, not-false}
 use Rattle.terms.specs.Base.{pick, also}
 use Rattle.terms.specs.Line.{depthAt}
 use Rattle.terms.specs.Sound.{Sound}
 use Rattle.terms.specs.Subst.{fitsWithin}
 use Rattle.terms.specs.Tree.{Tree, nought, deepness, substT}
 use Rattle.terms.specs.Meaning.{trees, treeOf, Den}
-use Rattle.terms.proofs.Meaning.{depth-right, den-at, den-grows, den-nought, den-member}
+use Rattle.terms.proofs.Check.{unless-pass}
+use Rattle.terms.proofs.Meaning.{depth-right}
+use Rattle.terms.proofs.Labels.{den-at, den-member}
+use Rattle.terms.proofs.Growth.{den-grows, den-nought}
 use Rattle.terms.proofs.Enter.{deepness-some}
 use Rattle.terms.proofs.Depth.{each-at, trees-whole, den-depth, fits-den}
-use Rattle.model.specs.Fields.{either}
 use Rattle.model.specs.declared.records.Action.{Action}
 use Rattle.model.specs.declared.records.Model.{Model}
-use Rattle.state.specs.Slot.{slotIn, slotAt}
+use Rattle.model.proofs.Tests.{neither, not-both}
+use Rattle.state.specs.Slot.{slotAt}
 use Rattle.state.specs.Control.{valueAt}
 use Rattle.state.specs.Early.{nextAction}
 use Rattle.state.specs.declared.slot.Slot.{Slot}
 use Rattle.state.specs.declared.control.Control.{Control}
+use Rattle.state.proofs.Frame.{live-place}
 use Rattle.rules.specs.Effect.{placeOf}
 use Rattle.audit.specs.Sound.{SoundModel}
 use Rattle.audit.specs.Whole.{Arrays, SoundConfig}
@@ -35,7 +39,7 @@ use Rattle.law.specs.Like.{Like, Fine}
 use Rattle.law.proofs.Fine.{sound-fine}
 use Rattle.law.proofs.Stands.{sound-like}
 use Rattle.machine.specs.Judge.{anyFrom}
-use Rattle.quiet.specs.Quiet.{actionFits, failsAt, allFit, shallow, listedOf}
+use Rattle.quiet.specs.Quiet.{actionFits, failsAt, allFit, actionNear, farAt, allNear, shallow, listedOf}
 use Rattle.quiet.proofs.Room.{Inside, whole-inside}
 use Rattle.quiet.proofs.Bounds.{Bounds, listed-bounds}
 use Rattle.quiet.proofs.Yields.{subst-deep}
@@ -50,35 +54,18 @@ pub record Fitting (m : Model) (l : List ℕ) (s : Control) : Type 0 where
   pub value : (i : ℕ) → slotAt (s .frame .slots) i .live ≡ true → nextAt m s i .op ≡ 2
       → deepness (valueAt nought (meant l s .config .values) (nextAt m s i .loc)) ≤ 15
 
--- a live thread stands in one of the twelve slots
-zero-free : slotIn 0 .live ≡ false
-unfolding slotIn
-zero-free = refl
-
-live-by : (b : Bool) (n : ℕ) → pick b (slotIn n) (slotIn 0) .live ≡ true → b ≡ true
-live-by true n h = refl
-live-by false n h = sym zero-free ∙ h
-
-pub live-low : (slots : List ℕ) (i : ℕ) → slotAt slots i .live ≡ true → i < 12
-unfolding slotAt
-live-low slots i h = ltb-true i 12 (live-by (ltb i 12) (getD slots i 0) h)
-
 -- a test that none of some numbers passes
-either-none : (p q : Bool) → either p q ≡ false → (p ≡ false) × (q ≡ false)
-either-none true q e = let z : _≡_ {A = ℕ} 0 1 = cc in absurd (omega arith)
-either-none false q e = (refl, e)
-
 any-at : (n i : ℕ) (p : ℕ → Bool) → anyFrom n i p ≡ false → (j : ℕ) → i ≤ j → j < i + n → p j ≡ false
 unfolding anyFrom
 any-at zero i p e j h k = absurd (omega arith)
-any-at (suc n) i p e j h k = go (ltb i j) refl (any-at n (i + 1) p (either-none (p i) (anyFrom n (i + 1) p) e .1) j)
+any-at (suc n) i p e j h k = go (ltb i j) refl (any-at n (i + 1) p (neither (p i) (anyFrom n (i + 1) p) e .1) j)
   where
     go : (b : Bool) → ltb i j ≡ b → (i + 1 ≤ j → j < i + 1 + n → p j ≡ false) → p j ≡ false
     go true f ih = let g = ltb-true i j f in ih (omega arith) (omega arith)
     go false f ih =
         let g = ltb-false i j f in
         let s : j ≡ i = omega arith in
-        ap p s ∙ either-none (p i) (anyFrom n (i + 1) p) e .0
+        ap p s ∙ neither (p i) (anyFrom n (i + 1) p) e .0
 
 pub none-at : (n : ℕ) (p : ℕ → Bool) → not (anyFrom n 0 p) ≡ true → (j : ℕ) → j < n → p j ≡ false
 none-at n p e j h = any-at n 0 p (not-true (anyFrom n 0 p) e) j (omega arith) (omega arith)
@@ -95,10 +82,12 @@ all-three true true false r e = record { one = refl; two = refl; three = λ f. l
 all-three true false c r e = let z : _≡_ {A = ℕ} 0 1 = cc in absurd (omega arith)
 all-three false q c r e = let z : _≡_ {A = ℕ} 0 1 = cc in absurd (omega arith)
 
-also-none : (p q : Bool) → also p (not q) ≡ false → p ≡ true → q ≡ true
-also-none true true e h = refl
-also-none true false e h = let z : _≡_ {A = ℕ} 0 1 = cc in absurd (omega arith)
-also-none false q e h = let z : _≡_ {A = ℕ} 0 1 = cc in absurd (omega arith)
+-- a test that no live thread fails
+live-passes : (slots : List ℕ) (p : ℕ → Bool) → not (anyFrom 12 0 (λ j. also (slotAt slots j .live) (not (p j)))) ≡ true
+    → (i : ℕ) → slotAt slots i .live ≡ true → p i ≡ true
+live-passes slots p e i live =
+    let f = none-at 12 (λ j. also (slotAt slots j .live) (not (p j))) e i (live-place slots i live) in
+    not-false (p i) (not-both (slotAt slots i .live) (not (p i)) f live)
 
 -- what a sound configuration of a sound model stands for
 module _ {m : Model} (M : SoundModel m) (A : Arrays m) {l : List ℕ} {s : Control} (C : SoundConfig m l s) where
@@ -145,39 +134,66 @@ module _ {m : Model} (M : SoundModel m) (A : Arrays m) {l : List ℕ} {s : Contr
 
   -- By the depths of all terms
 
-  module _ (d : ℕ) (fits : shallow d (listedOf m) ≡ true) (most : Bounds d l (s .count)) where
+  module _ (d : ℕ) (most : Bounds d l (s .count)) where
     den-most : {i : ℕ} {x : Tree} → Den l (s .count) i x → deepness x ≤ d
     den-most {i} e = let a = den-depth sound (C .terms .long) e in omega (arith, a, most i (e .below))
-
-    room : d + listedOf m .deep ≤ 16
-    unfolding shallow
-    room = leb-true (d + listedOf m .deep) 16 fits
 
     some : 1 ≤ d
     some = let a = deepness-some nought in let b = den-most zero-den in omega (arith, a, b)
 
-    listed-most : (i : ℕ) → i < m .count → deepness (treeOf (m .lines) (m .count) i) ≤ listedOf m .deep
-    listed-most i h =
-        let a = depth-right (M .table) (A .lines) i h in
-        omega (arith, a, listed-bounds m (M .table .room) i h)
-
-    operand-most : (i label : ℕ) → label < m .count → deepness (operand m (meant l s) i label) ≤ 15
+    -- a listed term, by its own depth
+    operand-near : (i label : ℕ) → label < m .count → depthAt l label + d ≤ 16 → deepness (operand m (meant l s) i label) ≤ 15
     unfolding operand
-    operand-most i label h =
+    operand-near i label h room =
         let a = subst-deep (meant l s .config .vars) (placeOf i 0) d some (λ j. den-most (var-den j)) (treeOf (m .lines) (m .count) label) in
-        omega (arith, a, listed-most label h, room)
+        let b = den-depth sound (C .terms .long) (label-den label h) in
+        omega (arith, a, b, room)
 
-    fits-shallow-in : Fitting m l s
-    fits-shallow-in = record {
-      first = λ i live. operand-most i (nextAt m s i .x) (first-low (slotAt (s .frame .slots) i));
-      second = λ i live. operand-most i (nextAt m s i .y) (second-low (slotAt (s .frame .slots) i));
-      value = λ i live op.
-          let a = den-most (value-den (nextAt m s i .loc)) in
-          let b = deepness-some (treeOf (m .lines) (m .count) 0) in
-          let c = M .table .some in
-          let e = listed-most 0 (omega (arith, c)) in
-          omega (arith, a, b, e, room);
+    -- a term has depth 1 at least, so where one leaves room for d, d is 15 at most
+    value-near : (k label : ℕ) → label < m .count → depthAt l label + d ≤ 16 → deepness (valueAt nought (meant l s .config .values) k) ≤ 15
+    value-near k label h room =
+        let a = den-most (value-den k) in
+        let b = den-depth sound (C .terms .long) (label-den label h) in
+        let c = deepness-some (treeOf (m .lines) (m .count) label) in
+        omega (arith, a, b, c, room)
+
+    record Near (a : Action) : Type 0 where
+      first : depthAt l (a .x) + d ≤ 16
+      second : depthAt l (a .y) + d ≤ 16
+
+    near-fits : ((i : ℕ) → slotAt (s .frame .slots) i .live ≡ true → Near (nextAt m s i)) → Fitting m l s
+    near-fits near = record {
+      first = λ i live. operand-near i (nextAt m s i .x) (first-low (slotAt (s .frame .slots) i)) (near i live .first);
+      second = λ i live. operand-near i (nextAt m s i .y) (second-low (slotAt (s .frame .slots) i)) (near i live .second);
+      value = λ i live op. value-near (nextAt m s i .loc) (nextAt m s i .x) (first-low (slotAt (s .frame .slots) i)) (near i live .first);
     }
+
+    -- where the deepest listed term leaves room for d, all do
+    listed-near : shallow d (listedOf m) ≡ true → (label : ℕ) → label < m .count → depthAt l label + d ≤ 16
+    unfolding shallow
+    listed-near fits label h =
+        let a = den-depth sound (C .terms .long) (label-den label h) in
+        let b = depth-right (M .table) (A .lines) label h in
+        let c = leb-true (d + listedOf m .deep) 16 fits in
+        omega (arith, a, b, c, listed-bounds m (M .table .room) label h)
+
+    fits-shallow-in : shallow d (listedOf m) ≡ true → Fitting m l s
+    fits-shallow-in fits = near-fits (λ i live. record {
+      first = listed-near fits (nextAt m s i .x) (first-low (slotAt (s .frame .slots) i));
+      second = listed-near fits (nextAt m s i .y) (second-low (slotAt (s .frame .slots) i));
+    })
+
+    -- the test on each thread's own operands
+    action-near : (a : Action) → actionNear l d a ≡ true → Near a
+    unfolding actionNear
+    action-near a e =
+        let t = unless-pass _ _ e in
+        record { first = ltb-false _ _ (t .0); second = leb-true _ _ (t .1) }
+
+    fits-near-in : allNear l (s .frame .slots) (m .actions) d ≡ true → Fitting m l s
+    unfolding allNear farAt
+    fits-near-in fits =
+        near-fits (λ i live. action-near (nextAt m s i) (live-passes (s .frame .slots) (λ j. actionNear l d (nextAt m s j)) fits i live))
 
   -- By the operands of each thread
 
@@ -192,9 +208,7 @@ module _ {m : Model} (M : SoundModel m) (A : Arrays m) {l : List ℕ} {s : Contr
   module _ (fits : allFit l (s .frame .slots) (s .values) (s .vars) (m .actions) ≡ true) where
     thread-fits : (i : ℕ) → slotAt (s .frame .slots) i .live ≡ true → actionFits l (s .values) (s .vars) (i * 16) (nextAt m s i) ≡ true
     unfolding allFit failsAt
-    thread-fits i live =
-        also-none (slotAt (s .frame .slots) i .live) (actionFits l (s .values) (s .vars) (i * 16) (nextAt m s i))
-        (none-at 12 (λ j. failsAt l (s .frame .slots) (s .values) (s .vars) (m .actions) j) fits i (live-low (s .frame .slots) i live)) live
+    thread-fits = live-passes (s .frame .slots) (λ j. actionFits l (s .values) (s .vars) (j * 16) (nextAt m s j)) fits
 
     action-fits : (i : ℕ) → slotAt (s .frame .slots) i .live ≡ true
         → AllThree (fitsWithin 15 l (s .vars) (i * 16) (nextAt m s i .x)) (fitsWithin 15 l (s .vars) (i * 16) (nextAt m s i .y))
@@ -214,7 +228,11 @@ module _ {m : Model} (M : SoundModel m) (A : Arrays m) {l : List ℕ} {s : Contr
 
 pub fits-shallow : {m : Model} → SoundModel m → Arrays m → {l : List ℕ} {s : Control} → SoundConfig m l s
     → (d : ℕ) → shallow d (listedOf m) ≡ true → Bounds d l (s .count) → Fitting m l s
-fits-shallow M A C d fits most = fits-shallow-in M A C d fits most
+fits-shallow M A C d fits most = fits-shallow-in M A C d most fits
+
+pub fits-near : {m : Model} → SoundModel m → Arrays m → {l : List ℕ} {s : Control} → SoundConfig m l s
+    → (d : ℕ) → allNear l (s .frame .slots) (m .actions) d ≡ true → Bounds d l (s .count) → Fitting m l s
+fits-near M A C d fits most = fits-near-in M A C d most fits
 
 pub fits-all : {m : Model} → SoundModel m → Arrays m → {l : List ℕ} {s : Control} → SoundConfig m l s
     → allFit l (s .frame .slots) (s .values) (s .vars) (m .actions) ≡ true → Fitting m l s

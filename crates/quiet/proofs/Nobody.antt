@@ -9,6 +9,7 @@ use lib.ListN.{getD}
 use lib.Dec.{eqb, ltb}
 use borrow.Author.Tests.{ltb-false}
 use Rattle.terms.specs.Base.{pick}
+use Rattle.terms.proofs.Check.{unless-pass}
 use Rattle.model.specs.declared.records.Claim.{Claim}
 use Rattle.model.specs.declared.records.Model.{Model}
 use Rattle.state.specs.Slot.{slotIn, slotAt}
@@ -24,30 +25,26 @@ use Rattle.state.specs.declared.control.Frame.{Frame}
 use Rattle.state.specs.declared.ended.Ended.{Ended}
 use Rattle.state.specs.declared.ended.Ended.the-variants.{Nobody, One, Two}
 use Rattle.state.proofs.Turned.{let-advance, let-hand}
+use Rattle.state.proofs.Frame.{live-place, slot-there}
 use Rattle.rules.specs.Event.{happening}
 use Rattle.rules.specs.Happened.{aloneOf, advanceEvent, handEvent, happenedBy, happenedOn}
 use Rattle.rules.specs.declared.event.Event.{Event}
 use Rattle.rules.specs.declared.event.Happening.{Happening}
 use Rattle.rules.specs.declared.work.Labels.{Labels}
-use Rattle.law.proofs.KeptVars.{slot-there}
 use Rattle.machine.specs.Claim.{endedIn, acceptsOf, breaksClaim}
 use Rattle.quiet.specs.Quiet.{standsIn, nobodyStands, calm, listedOf}
-use Rattle.quiet.proofs.Fitting.{live-low, none-at}
+use Rattle.quiet.proofs.Fitting.{none-at}
 
 -- the two halves of the test
 pub record Calm (m : Model) (slots : List ℕ) (count : ℕ) : Type 0 where
   pub room : count + m .count ≤ 511
   pub nobody : nobodyStands slots (m .lengths) (m .claim .program) ≡ true
 
-calm-by : (n : ℕ) (b r : Bool) → ltb 511 n ≡ b → pick b false r ≡ true → (n ≤ 511) × (r ≡ true)
-calm-by n true r e h = let z : _≡_ {A = ℕ} 0 1 = cc in absurd (omega arith)
-calm-by n false r e h = (ltb-false 511 n e, h)
-
 pub is-calm : (m : Model) (slots : List ℕ) (count : ℕ) → calm slots (m .lengths) count (listedOf m) ≡ true → Calm m slots count
 unfolding calm listedOf
 is-calm m slots count e =
-    let c = calm-by (count + m .count) (ltb 511 (count + m .count)) (nobodyStands slots (m .lengths) (m .claim .program)) refl e in
-    record { room = c .0; nobody = c .1 }
+    let c = unless-pass (ltb 511 (count + m .count)) (nobodyStands slots (m .lengths) (m .claim .program)) e in
+    record { room = ltb-false 511 (count + m .count) (c .0); nobody = c .1 }
 
 -- a thread of program v does not stand before its last action
 abbrev Apart : List ℕ → ℕ → Slot → Type 0
@@ -65,7 +62,7 @@ stands-apart lengths v n e live same = apart-by (slotIn n .live) (eqb (slotIn n 
 live-apart : (slots lengths : List ℕ) (v : ℕ) → nobodyStands slots lengths v ≡ true → (i : ℕ) → slotAt slots i .live ≡ true → Apart lengths v (slotAt slots i)
 unfolding nobodyStands
 live-apart slots lengths v e i live =
-    let low = live-low slots i live in
+    let low = live-place slots i live in
     let s : slotAt slots i ≡ slotIn (getD slots i 0) = slot-there slots i low in
     let live2 : slotIn (getD slots i 0) .live ≡ true = rw s at live in
     rw s (stands-apart lengths v (getD slots i 0) (none-at 12 (λ j. standsIn lengths v (getD slots j 0)) e i low) live2)

@@ -12,8 +12,8 @@ use lib.Dec.{eqb}
 use Rattle.terms.specs.Base.{pick}
 use Rattle.terms.specs.Line.{bitOf}
 use Rattle.terms.specs.Tree.{Tree, leaf, sealed, applied, joined, nought, substT, same, member, with, enter}
-use Rattle.terms.proofs.Meaning.{same-true, same-eq}
-use Rattle.terms.proofs.Enter.{member-left, member-right, member-here, with-known, with-has}
+use Rattle.terms.proofs.Labels.{same-true, same-eq}
+use Rattle.terms.proofs.Enter.{pick-same, member-left, member-right, member-here, with-known, with-has}
 use Rattle.terms.proofs.Enter.{Longer, longer-same, longer-then, longer-member, with-longer, enter-longer, Parts, Whole}
 
 -- a tree stands in ks with all its parts
@@ -118,10 +118,6 @@ with-total zs ks y h = go (member y ks) refl
         let b : length (ks ++ (y ∷ [])) ≡ length ks + 1 = length-append ks (y ∷ []) in
         omega arith
 
-always : (b : Bool) → pick b true true ≡ true
-always true = refl
-always false = refl
-
 -- values put for the variables of a member
 pub member-map : (f : Tree → Tree) (x : Tree) (ts : List Tree) → member x ts ≡ true → member (f x) (map f ts) ≡ true
 unfolding member
@@ -131,7 +127,7 @@ member-map f x (t ∷ ts) h = go (same t x) refl h (member-map f x ts)
     go : (b : Bool) → same t x ≡ b → pick b true (member x ts) ≡ true → (member x ts ≡ true → member (f x) (map f ts) ≡ true)
         → pick (same (f t) (f x)) true (member (f x) (map f ts)) ≡ true
     go true e q ih = rw (same-eq (f t) (f x) (ap f (same-true t x e)))
-    go false e q ih = rw (ih q) (always (same (f t) (f x)))
+    go false e q ih = rw (ih q) (pick-same (same (f t) (f x)))
 
 -- ts are the listed terms, ws the values, all of them with their parts in ks₀
 module _ (ts ks₀ ws : List Tree) (o : ℕ) (listed : Whole ts) (values : (i : ℕ) → Inside ks₀ (getD ws i nought)) where

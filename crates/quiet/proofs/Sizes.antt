@@ -2,16 +2,17 @@
 -- out whole, which are what the machine does.
 use Prim.Native.Nat.{ℕ, _<_, _≤_, max}
 use mathlib.Core.Path.{_≡_, refl, sym, _∙_}
-use mathlib.Core.Bool.{Bool, true, false, not}
-use mathlib.Core.List.{List, [], _∷_, _++_}
+use mathlib.Core.Bool.{Bool, true, false}
+use mathlib.Core.List.{List, _++_}
 use native.Mathlib.Omega.{arith}
 use lib.ListN.{length}
 use lib.Dec.{eqb}
-use borrow.Author.Tests.{le-ltb}
-use Rattle.terms.specs.Base.{pick, also}
+use borrow.Author.Tests.{le-ltb, ne-eqb}
+use Rattle.terms.specs.Base.{pick}
 use Rattle.terms.specs.Tree.{Tree, nought, deepness, member, enter}
 use Rattle.terms.specs.Meaning.{trees, treeOf}
-use Rattle.terms.proofs.Meaning.{also-left, also-right, length-trees, den-at, den-member}
+use Rattle.terms.proofs.Meaning.{length-trees}
+use Rattle.terms.proofs.Labels.{den-at, den-member}
 use Rattle.terms.proofs.Enter.{Longer, longer-then, enter-longer}
 use Rattle.terms.proofs.Depth.{trees-whole}
 use Rattle.terms.proofs.Substs.{den-shallow}
@@ -21,12 +22,12 @@ use Rattle.state.specs.Reason.{Reason, firstOf, NoneHolds, done, next}
 use Rattle.state.specs.Slot.{slotAt}
 use Rattle.state.specs.Code.{wayOf}
 use Rattle.state.specs.Control.{valueAt}
-use Rattle.state.specs.Early.{Sight, reasons, refusalOf, earlyOf}
+use Rattle.state.specs.Early.{Sight, refusalOf, earlyOf}
 use Rattle.state.specs.Seek.{sightOf}
 use Rattle.state.specs.declared.code.Way.{Way}
 use Rattle.state.specs.declared.code.Way.the-variants as W
 use Rattle.state.specs.declared.control.Control.{Control}
-use Rattle.state.proofs.Turned.{lets-iff, early-way, let-advance, let-hand}
+use Rattle.state.proofs.Turned.{lets-iff, early-seven, early-way, let-advance, let-hand}
 use Rattle.rules.specs.Effect.{placeOf}
 use Rattle.rules.specs.Step.{stepOn}
 use Rattle.audit.specs.Sound.{SoundModel}
@@ -50,27 +51,10 @@ isSize n = either (eqb n 8) (eqb n 9)
 
 -- Reasons 1 to 7 are not for size
 
-abbrev noSizes : List Reason → Bool
-noSizes [] = true
-noSizes (r ∷ rs) = also (not (isSize (r .number))) (noSizes rs)
-
-not-size : (b : Bool) → not b ≡ true → b ≡ false
-not-size true e = let z : _≡_ {A = ℕ} 0 1 = cc in absurd (omega arith)
-not-size false e = refl
-
-first-no-size : (rs : List Reason) → noSizes rs ≡ true → isSize (firstOf rs) ≡ false
-first-no-size [] h = refl
-first-no-size (r ∷ rs) h =
-    go (r .holds) (not-size (isSize (r .number)) (also-left (not (isSize (r .number))) (noSizes rs) h))
-    (first-no-size rs (also-right (not (isSize (r .number))) (noSizes rs) h))
-  where
-    go : (b : Bool) → isSize (r .number) ≡ false → isSize (firstOf rs) ≡ false → isSize (pick b (r .number) (firstOf rs)) ≡ false
-    go true p q = p
-    go false p q = q
-
 pub early-no-size : (g : Sight) (code : ℕ) → isSize (earlyOf g code) ≡ false
-unfolding earlyOf refusalOf
-early-no-size g code = first-no-size (reasons g (wayOf code)) refl
+early-no-size g code =
+    let h = early-seven g code in
+    rw (ne-eqb (earlyOf g code) 8 (λ e. omega (arith, h, e)), ne-eqb (earlyOf g code) 9 (λ e. omega (arith, h, e)))
 
 -- where none of them holds, the first reason is among the others
 first-behind : {rs : List Reason} (ts : List Reason) → NoneHolds rs → firstOf (rs ++ ts) ≡ firstOf ts

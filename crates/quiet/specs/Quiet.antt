@@ -55,6 +55,20 @@ failsAt l slots values vars actions i =
 unfoldable pub allFit : List ℕ → List ℕ → List ℕ → List ℕ → List ℕ → Bool
 allFit l slots values vars actions = not (anyFrom 12 0 (λ i. failsAt l slots values vars actions i))
 
+-- the deepest term put for every variable of the operands still leaves a result within 16
+unfoldable pub actionNear : List ℕ → ℕ → Action → Bool
+actionNear l deep a =
+    pick (ltb 16 (depthAt l (a .x) + deep)) false
+    (leb (depthAt l (a .y) + deep) 16)
+
+-- the next action of a live thread in slot i may come to be too deep
+unfoldable pub farAt : List ℕ → List ℕ → List ℕ → ℕ → ℕ → Bool
+farAt l slots actions deep i =
+    also (slotAt slots i .live) (not (actionNear l deep (nextAction actions (slotAt slots i))))
+
+unfoldable pub allNear : List ℕ → List ℕ → List ℕ → ℕ → Bool
+allNear l slots actions deep = not (anyFrom 12 0 (λ i. farAt l slots actions deep i))
+
 -- nobody stands before the last action of the claim's program, and there is room for as many terms more as are listed, and a result
 unfoldable pub calm : List ℕ → List ℕ → ℕ → Listed → Bool
 calm slots lengths count g = pick (ltb 511 (count + g .count)) false (nobodyStands slots lengths (g .program))

@@ -3,12 +3,12 @@ use model::records::Action;
 use state::control::value_at;
 use state::early::next_action;
 use state::slot::slot_at;
+use terms::grade::deeper;
 use terms::line::depth_at;
 use terms::subst::fits_within;
 use terms::table::used;
 ghost use mathlib.Core.Path.{_≡_};
-ghost use Rattle.terms.specs.Grade.{deeperOf};
-ghost use Rattle.quiet.specs.Quiet.{deepest, actionFits, failsAt, allFit};
+ghost use Rattle.quiet.specs.Quiet.{deepest, actionNear, farAt, allNear, actionFits, failsAt, allFit};
 
 // The deepest of the terms from one label up to a count, or what was deepest before.
 pub fn deepest(t: &[u64; 512], before: u8, from: u16, count: u16) -> u8
@@ -24,10 +24,52 @@ pub fn deepest(t: &[u64; 512], before: u8, from: u16, count: u16) -> u8
     deep
 }
 
-fn deeper(d: u8, n: u8) -> u8
-    ensures { λ r. ⌜ r ≡ deeperOf d n ⌝ }
+// The next actions of all live threads have operands that leave a result within 16, whatever term of the table is put for
+// each variable.
+pub fn all_near<'a>(
+    t: &'a [u64; 512],
+    slots: &'a [u64; 12],
+    actions: &'a [u64; 512],
+    deep: u8,
+) -> bool
+    ensures { λ r. ⌜ r ≡ allNear (now (t .entry)) (now (slots .entry)) (now (actions .entry)) deep ⌝ }
 {
-    if d < n { n } else { d }
+    let mut i = 0;
+    while i < 12 {
+        if far_at(t, slots, actions, deep, i) {
+            return false;
+        }
+        i += 1;
+    }
+    true
+}
+
+// There is a live thread in this slot, and its next action may come to be too deep.
+fn far_at<'a>(
+    t: &'a [u64; 512],
+    slots: &'a [u64; 12],
+    actions: &'a [u64; 512],
+    deep: u8,
+    i: u8,
+) -> bool
+    ensures { λ r. ⌜ r ≡ farAt (now (t .entry)) (now (slots .entry)) (now (actions .entry)) deep i ⌝ }
+{
+    let q = slot_at(slots, i);
+    if q.live {
+        return !action_near(t, deep, next_action(actions, q));
+    }
+    false
+}
+
+// The deepest term put for every variable of the operands still leaves a result within 16.
+fn action_near(t: &[u64; 512], deep: u8, a: Action) -> bool
+    ensures { λ r. ⌜ r ≡ actionNear (now (t .entry)) deep a ⌝ }
+{
+    let room = deep as u16;
+    if 16 < depth_at(t, a.x) as u16 + room {
+        return false;
+    }
+    depth_at(t, a.y) as u16 + room <= 16
 }
 
 // The next actions of all live threads have operands of depth 15 at most.

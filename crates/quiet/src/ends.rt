@@ -4,10 +4,14 @@ use state::slot::slot_in;
 ghost use mathlib.Core.Path.{_≡_};
 ghost use Rattle.quiet.specs.Quiet.{standsIn, nobodyStands};
 
-// A live thread that stands before the last action of this program.
+// A live thread that stands before the last action of this program. Most slots are free, as number 0 is, so that is asked first,
+// before the number is taken apart.
 fn stands(lengths: &[u8; 32], program: u8, n: u64) -> bool
     ensures { λ r. ⌜ r ≡ standsIn (now (lengths .entry)) program n ⌝ }
 {
+    if n == 0 {
+        return false;
+    }
     let q = slot_in(n);
     if !q.live {
         return false;

@@ -1,6 +1,5 @@
 // Whether all codes of a configuration are plain, asked twice: by its slots and the depths of its terms alone, and where
 // that does not do, by its operands.
-use crate::depths::all_fit;
 use crate::ends::nobody_stands;
 ghost use mathlib.Core.Path.{_≡_};
 ghost use Rattle.quiet.specs.Quiet.{calm, shallow};

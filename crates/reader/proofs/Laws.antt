@@ -19,7 +19,7 @@ use Rattle.lines.proofs.Lines.{width-min, lines-cons, span-take}
 use Rattle.model.specs.Records.{lengthAt}
 use Rattle.reader.specs.Numbers.{badFields, fieldsBy, fieldsIn}
 use Rattle.reader.specs.FirstReading.{kept, nextLine, goOn, wholeRead, readFrom}
-use Rattle.reader.specs.SecondReading.{refusal, firstFrom, within, withinFrom, programsFrom}
+use Rattle.reader.specs.SecondReading.{refusal, within, withinFrom, programsFrom}
 use Rattle.reader.specs.declared.fields.Fields.{Fields}
 use Rattle.reader.specs.declared.draft.Draft.{Draft}
 use Rattle.reader.specs.declared.second.Within.{Within}
@@ -73,19 +73,6 @@ read-more s at n l acts d h =
 pub read-end : (s : List ℕ) (at n : ℕ) (l acts : List ℕ) (d : Draft) → length s ≤ at → readFrom n (linesOf (drop at s)) l acts d ≡ kept (wholeRead n d) l acts
 unfolding readFrom linesOf
 read-end s at n l acts d h = rw (drop-of-length-le s h)
-
--- first_bad_code: one label
-first-step : (k i : ℕ) (p : ℕ → Bool) → 0 < k → firstFrom k i p ≡ pick (p i) i (firstFrom (k - 1) (i + 1) p)
-unfolding firstFrom
-first-step zero i p h = absurd (omega arith)
-first-step (suc k) i p h = rw sub-one
-
-pub first-more : (n i : ℕ) (p : ℕ → Bool) → i < n → firstFrom (n - i) i p ≡ pick (p i) i (firstFrom (n - (i + 1)) (i + 1) p)
-first-more n i p h = rw (sub-add-eq, first-step (n - i) i p (omega arith))
-
-pub first-end : (n i : ℕ) (p : ℕ → Bool) → n ≤ i → i ≤ n → firstFrom (n - i) i p ≡ n
-unfolding firstFrom
-first-end n i p h k = let e : i ≡ n = omega arith in rw (sub-eq-zero-of-le) e
 
 -- program_reading: one action
 within-step : (k i : ℕ) (f : ℕ → ℕ) → 0 < k → withinFrom k i f ≡ pick (eqb (f i) 0) (withinFrom (k - 1) (i + 1) f) (within (f i) i)

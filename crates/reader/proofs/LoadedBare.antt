@@ -3,12 +3,13 @@
 use Prim.Native.Nat.{ℕ}
 use mathlib.Core.Path.{_≡_, refl}
 use mathlib.Core.List.{List, [], _∷_}
-use Rattle.terms.specs.Term.{term, shapeOf, inLimits, partsBelow, afterParts}
+use Rattle.terms.specs.Term.{shapeOf, inLimits, partsBelow, afterParts}
 use Rattle.terms.specs.Line.{packed, termIn, depthIn, groundIn}
 use Rattle.terms.specs.Grade.{deeperOf, aboveLine, aboveBoth, gradeOf}
 use Rattle.terms.specs.Table.{fixedLine, freshTable, freeOf, findIn, findLine, findTerm, addTo}
 use Rattle.model.specs.Records.{packAction, actionIn, packMachine, packLocation, packThread, lengthAt, actionAt, locationAt, locationIn}
 use Rattle.model.specs.Fields.{locOf, usesX, usesY, closing, locInForm, unusedZero, inForm, isMemory, isRegister, kindFits}
+use Rattle.model.specs.First.{firstFrom}
 use Rattle.lines.specs.Line.{span, noLF, cutLine, linesOf}
 use Rattle.lines.specs.Field.{isDigit, wellSpelt, numberFrom, numberOf, fieldOf}
 use Rattle.audit.specs.Each.{allFrom}
@@ -25,7 +26,7 @@ use Rattle.reader.specs.LLine.{locationOrder21, locationLimits22, locati
 use Rattle.reader.specs.TLine.{threadNames23, threadRefusal, threadOf, threadEntry, threadLine}
 use Rattle.reader.specs.CLine.{claimForm20, pathNames23, claimNames23, claimRefusal, claimOf, claimLine}
 use Rattle.reader.specs.FirstReading.{oneLine, nextLine, wholeRead, readFrom, firstReading}
-use Rattle.reader.specs.SecondReading.{firstFrom, firstBadCode, lineOfLabel, programTwice24, actionSecond, withinFrom, programReading, programsFrom, programsReading, secondReading}
+use Rattle.reader.specs.SecondReading.{firstBadCode, lineOfLabel, programTwice24, actionSecond, withinFrom, programReading, programsFrom, programsReading, secondReading}
 use Rattle.reader.specs.Load.{noModel, modelOf, refusedWith, loadOf, loaded}
 
 -- its lines in their order; n is the digit of the program whose code is label 3

@@ -26,7 +26,8 @@ use Rattle.reader.specs.declared.fields.Fields.{Fields}
 use Rattle.reader.specs.declared.draft.Draft.{Draft}
 use Rattle.reader.specs.declared.draft.Lined.{Lined}
 use Rattle.reader.proofs.LoadedFacts.{MachineNumber, LocationNumber, ThreadNumber, ClaimNamed, Drafted}
-use Rattle.reader.proofs.LoadedTests.{passes, neither, not-both, entered, follows-in, capped-le, capped-small}
+use Rattle.model.proofs.Tests.{not-both, neither}
+use Rattle.reader.proofs.LoadedTests.{passes, entered, follows-in, capped-le, capped-small}
 use Rattle.reader.proofs.LoadedNumbers.{Numbers}
 use Rattle.reader.proofs.LoadedDrafts.{with-edition, with-machine, with-location, with-thread, with-claim}
 

@@ -1,22 +1,12 @@
 -- One record more of a listing, and a listing of none.
 use Prim.Native.Nat.{ℕ, zero, suc, _+_, _<_}
 use mathlib.Core.Path.{_≡_, refl, sym, _∙_, subst}
-use mathlib.Core.Bool.{Bool, true, false}
 use mathlib.Core.List.{List}
 use native.Mathlib.Omega.{arith}
 use lib.ListN.{getD, set, replicate, length-set, length-replicate}
 use lib.Seq.{getD-set-same, getD-set-other}
-use lib.Dec.{ltb}
-use borrow.Author.Tests.{ltb-true, ltb-false}
+use Rattle.terms.proofs.Laws.{below-or}
 use Rattle.reader.proofs.LoadedFacts.{Listing}
-
--- below n, or n itself
-pub below-or : (P : ℕ → Type 0) (n : ℕ) → ((i : ℕ) → i < n → P i) → P n → (i : ℕ) → i < n + 1 → P i
-below-or P n f q i h = by (ltb i n) refl
-  where
-    by : (t : Bool) → ltb i n ≡ t → P i
-    by true e = f i (ltb-true i n e)
-    by false e = let g = ltb-false i n e in let r : n ≡ i = omega arith in subst P r q
 
 pub one-more : {P : ℕ → Type 0} {room n : ℕ} {l : List ℕ} → Listing P room l n → n < room → (v : ℕ) → P v → Listing P room (set l n v) (n + 1)
 one-more {P} {room} {n} {l} L h v q = record {

@@ -11,14 +11,16 @@ use Rattle.terms.specs.Line.{termAt}
 use Rattle.terms.specs.declared.term.Term.{Term}
 use Rattle.model.specs.Records.{actionAt, lengthAt, locationAt}
 use Rattle.model.specs.Fields.{kindFits}
+use Rattle.model.specs.First.{firstFrom}
 use Rattle.audit.specs.Programs.{newProgram}
 use Rattle.reader.specs.ELine.{codePast}
 use Rattle.reader.specs.ALine.{locationPast}
-use Rattle.reader.specs.SecondReading.{refusal, firstFrom, firstBadCode, lineOfLabel, programTwice24, actionSecond}
+use Rattle.reader.specs.SecondReading.{refusal, firstBadCode, lineOfLabel, programTwice24, actionSecond}
 use Rattle.reader.specs.SecondReading.{within, withinFrom, programReading, programsFrom, programsReading, secondReading}
 use Rattle.reader.specs.declared.draft.Draft.{Draft}
 use Rattle.reader.specs.declared.second.Within.{Within}
-use Rattle.reader.proofs.LoadedTests.{passes, not-both}
+use Rattle.model.proofs.Tests.{not-both}
+use Rattle.reader.proofs.LoadedTests.{passes}
 
 -- number i, or a later one
 from-or : (P : ℕ → Type 0) (i n : ℕ) → P i → ((j : ℕ) → i + 1 ≤ j → j < i + 1 + n → P j) → (j : ℕ) → i ≤ j → j < i + suc n → P j

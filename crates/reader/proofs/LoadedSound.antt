@@ -1,5 +1,5 @@
 -- F2. A loaded model is sound: what the reader lets through keeps every rule that a sound model keeps.
-use Prim.Native.Nat.{ℕ, _+_, _*_, _-_, _<_}
+use Prim.Native.Nat.{ℕ, _-_, _<_}
 use mathlib.Core.Path.{_≡_, refl, sym, _∙_}
 use mathlib.Core.Bool.{Bool, true, false}
 use mathlib.Core.List.{List}
@@ -20,7 +20,8 @@ use Rattle.audit.specs.Programs.{namesLocation, numberOf, newProgram}
 use Rattle.audit.specs.Models.{soundModel}
 use Rattle.audit.specs.Sound.{FitOperand, FitAction, FitProgram, FitMachine, FitLocation, FitThread, FitClaim, ZeroPast, SoundModel}
 use Rattle.audit.proofs.Laws.{each-at}
-use Rattle.audit.proofs.Check.{machine-in, location-in, thread-in, action-in, model-test}
+use Rattle.audit.proofs.Places.{machine-in, location-in, thread-in, action-in}
+use Rattle.audit.proofs.Check.{model-test}
 use Rattle.reader.specs.ALine.{pastBy, locationPast}
 use Rattle.reader.specs.FirstReading.{Kept, firstReading}
 use Rattle.reader.specs.SecondReading.{secondReading}

@@ -17,13 +17,14 @@ use Rattle.terms.specs.declared.term.Term.{Term}
 use Rattle.terms.specs.declared.term.Shape.{Shape}
 use Rattle.terms.specs.declared.term.Shape.the-variants.{Bare, Number, Variable, Sealed, Hashed, Applied, Joined, Unknown}
 use Rattle.terms.specs.declared.table.Added.{Added}
-use Rattle.terms.proofs.Meaning.{also-left, also-right, variable-six, other-six}
+use Rattle.terms.proofs.Meaning.{also-left, also-right, variable-six, pick-max}
 use Rattle.terms.proofs.Add.{adds}
 use Rattle.model.specs.Records.{packAction, lengthAt}
 use Rattle.model.specs.Fields.{closing}
 use Rattle.model.specs.declared.records.Action.{Action}
 use Rattle.model.proofs.Pack.{SmallAction}
 use Rattle.audit.specs.Tops.{topmost}
+use Rattle.audit.proofs.Highest.{leaf-top}
 use Rattle.reader.specs.Numbers.{areFields, num, upTo255}
 use Rattle.reader.specs.Drafts.{lined, followsGroup, withTerm, withAction}
 use Rattle.reader.specs.ELine.{needAt, pastOf, largerOf, needBy, needOf, termOf, termOrder21, termLimits22, termNames23}
@@ -34,7 +35,8 @@ use Rattle.reader.specs.declared.fields.Fields.{Fields}
 use Rattle.reader.specs.declared.draft.Draft.{Draft}
 use Rattle.reader.specs.declared.draft.Lined.{Lined}
 use Rattle.reader.proofs.LoadedFacts.{Terms, Operand, Drafted}
-use Rattle.reader.proofs.LoadedTests.{passes, neither, judged, follows-in, capped-small}
+use Rattle.model.proofs.Tests.{neither}
+use Rattle.reader.proofs.LoadedTests.{passes, judged, follows-in, capped-small}
 use Rattle.reader.proofs.LoadedNumbers.{Numbers}
 use Rattle.reader.proofs.LoadedDrafts.{with-term, with-action}
 
@@ -42,15 +44,7 @@ use Rattle.reader.proofs.LoadedDrafts.{with-term, with-action}
 
 larger-max : (m n : ℕ) → largerOf m n ≡ max m n
 unfolding largerOf
-larger-max m n = by (ltb m n) refl
-  where
-    by : (t : Bool) → ltb m n ≡ t → pick t n m ≡ max m n
-    by true e = let h = ltb-true m n e in omega arith
-    by false e = let h = ltb-false m n e in omega arith
-
-leaf-asks : (k a : ℕ) → (shapeOf k ≡ Variable → ⊥) → 0 ≡ topmost (leaf k a)
-unfolding topmost
-leaf-asks k a f = rw (other-six k f)
+larger-max m n = pick-max m n
 
 variable-asks : (k a : ℕ) → shapeOf k ≡ Variable → a < 16 → pastOf a ≡ topmost (leaf k a)
 unfolding topmost pastOf
@@ -63,8 +57,8 @@ need-in ns j h = rw (lt-ltb j 512 h)
 asks-by : (s : Shape) (k a b n : ℕ) (ns : List ℕ) (ts : List Tree) → shapeOf k ≡ s → limitsBy s a b ≡ true → partsBy s a b n ≡ true
     → ((j : ℕ) → j < n → needAt ns j ≡ topmost (getD ts j nought)) → needBy s ns a b ≡ topmost (buildBy s k a b ts)
 unfolding topmost
-asks-by Bare k a b n ns ts e u p f = leaf-asks k a (λ h. let z : _≡_ {A = ℕ} 0 1 = cc in omega arith)
-asks-by Number k a b n ns ts e u p f = leaf-asks k a (λ h. let z : _≡_ {A = ℕ} 0 1 = cc in omega arith)
+asks-by Bare k a b n ns ts e u p f = leaf-top k a (λ h. let z : _≡_ {A = ℕ} 0 1 = cc in omega arith)
+asks-by Number k a b n ns ts e u p f = leaf-top k a (λ h. let z : _≡_ {A = ℕ} 0 1 = cc in omega arith)
 asks-by Variable k a b n ns ts e u p f = variable-asks k a e (ltb-true a 16 (also-left (ltb a 16) (eqb b 0) u))
 asks-by Sealed k a b n ns ts e u p f = f a (ltb-true a n p)
 asks-by Hashed k a b n ns ts e u p f = f a (ltb-true a n p)
@@ -73,7 +67,7 @@ asks-by Joined k a b n ns ts e u p f =
     let q = f a (ltb-true a n (also-left (ltb a n) (ltb b n) p)) in
     let r = f b (ltb-true b n (also-right (ltb a n) (ltb b n) p)) in
     larger-max (needAt ns a) (needAt ns b) ∙ ap₂ max q r
-asks-by Unknown k a b n ns ts e u p f = leaf-asks k a (λ h. let z : _≡_ {A = ℕ} 0 1 = cc in omega arith)
+asks-by Unknown k a b n ns ts e u p f = leaf-top k a (λ h. let z : _≡_ {A = ℕ} 0 1 = cc in omega arith)
 
 asks : {l : List ℕ} {c : ℕ} {ns : List ℕ} → Terms l c ns → (x : Term) → Fit x c → needOf ns x ≡ topmost (means l c x)
 unfolding needOf means build treeOf inLimits partsBelow

@@ -1,46 +1,28 @@
 -- One term more.
 use Prim.Native.Nat.{ℕ, zero, suc, _+_, _<_, _≤_}
-use mathlib.Core.Path.{_≡_, refl, sym, ap, _∙_}
+use mathlib.Core.Path.{_≡_, sym, ap, _∙_}
 use mathlib.Core.List.{List}
 use native.Mathlib.Omega.{arith}
 use lib.ListN.{getD, set, replicate, length-set, length-replicate}
 use lib.Seq.{getD-set-same, getD-set-other}
-use Rattle.terms.specs.Term.{shapeOf}
 use Rattle.terms.specs.Line.{termAt, termIn}
 use Rattle.terms.specs.Table.{freshTable}
-use Rattle.terms.specs.Tree.{Tree, leaf, sealed, applied, joined}
-use Rattle.terms.specs.Meaning.{buildBy, build, trees, treeOf, means, Den}
+use Rattle.terms.specs.Tree.{kindOf}
+use Rattle.terms.specs.Meaning.{build, trees, treeOf, means, Den}
 use Rattle.terms.specs.Promise.{Grows}
 use Rattle.terms.specs.declared.term.Term.{Term}
-use Rattle.terms.specs.declared.term.Shape.{Shape}
-use Rattle.terms.specs.declared.term.Shape.the-variants.{Bare, Number, Variable, Sealed, Hashed, Applied, Joined, Unknown}
 use Rattle.terms.proofs.Check.{fresh-long, fresh-sound}
-use Rattle.terms.proofs.Meaning.{tree-at, tree-grows, term-grows, den-nought, den-sinit, den-dinit}
+use Rattle.terms.proofs.Laws.{below-or}
+use Rattle.terms.proofs.Meaning.{tree-at}
+use Rattle.terms.proofs.Labels.{kind-build}
+use Rattle.terms.proofs.Growth.{tree-grows, term-grows, den-nought, den-sinit, den-dinit}
 use Rattle.audit.specs.Tops.{topmost}
 use Rattle.reader.proofs.LoadedFacts.{Terms}
-use Rattle.reader.proofs.LoadedLists.{below-or, zero-at}
-
--- the kind that a tree shows
-kindOf : Tree → ℕ
-kindOf (leaf k a) = k
-kindOf (sealed k x n) = k
-kindOf (applied k f x) = k
-kindOf (joined k x y) = k
-
-kind-by : (s : Shape) (k a b : ℕ) (ts : List Tree) → kindOf (buildBy s k a b ts) ≡ k
-unfolding kindOf
-kind-by Bare k a b ts = refl
-kind-by Number k a b ts = refl
-kind-by Variable k a b ts = refl
-kind-by Sealed k a b ts = refl
-kind-by Hashed k a b ts = refl
-kind-by Applied k a b ts = refl
-kind-by Joined k a b ts = refl
-kind-by Unknown k a b ts = refl
+use Rattle.reader.proofs.LoadedLists.{zero-at}
 
 kind-means : (l : List ℕ) (c : ℕ) (x : Term) → kindOf (means l c x) ≡ x .kind
-unfolding means build
-kind-means l c x = kind-by (shapeOf (x .kind)) (x .kind) (x .a) (x .b) (trees l c)
+unfolding means
+kind-means l c x = kind-build x (trees l c)
 
 -- the new line holds a term of the new term's kind
 kind-new : {l : List ℕ} {c : ℕ} {m : List ℕ} (x : Term) → Grows l c m (c + 1) → Den m (c + 1) c (means l c x) → termAt m c .kind ≡ x .kind

@@ -6,8 +6,7 @@ use mathlib.Core.List.{List}
 use native.Mathlib.Omega.{arith}
 use lib.Dec.{ltb, leb, eqb}
 use borrow.Author.Tests.{ltb-true, ltb-false, leb-true, eqb-true, eqb-false}
-use Rattle.terms.specs.Base.{pick, also, Held, held}
-use Rattle.model.specs.Fields.{either}
+use Rattle.terms.specs.Base.{pick, Held, held}
 use Rattle.reader.specs.Numbers.{upTo255}
 use Rattle.reader.specs.Drafts.{lined, unlessRefused, followsGroup}
 use Rattle.reader.specs.declared.draft.Draft.{Draft}
@@ -17,14 +16,6 @@ use Rattle.reader.specs.declared.draft.Lined.{Lined}
 pub passes : (b : Bool) (n m : ℕ) → ltb 0 n ≡ true → pick b n m ≡ 0 → (b ≡ false) × (m ≡ 0)
 passes true n m h e = absurd (omega (arith, ltb-true 0 n h))
 passes false n m h e = (refl, e)
-
-pub neither : (p q : Bool) → either p q ≡ false → (p ≡ false) × (q ≡ false)
-neither true q e = let z : _≡_ {A = ℕ} 0 1 = cc in absurd (omega arith)
-neither false q e = (refl, e)
-
--- one of two tests fails
-pub not-both : (p q : Bool) → also p q ≡ false → p ≡ true → q ≡ false
-not-both p q e h = rw h at e
 
 -- a line that is not refused is entered
 pub entered : (n : ℕ) (d : Draft) (r : Lined) → unlessRefused n d r .number ≡ 0 → (n ≡ 0) × (unlessRefused n d r ≡ r)

@@ -12,6 +12,7 @@ use Rattle.terms.specs.Grade.{gradeOf, aboveLine, aboveBoth, deeperOf}
 use Rattle.terms.specs.Table.{fixedLine, freshTable, addTo, findIn, findLine, findTerm, freeOf}
 use Rattle.model.specs.Records.{packAction, actionIn, packMachine, machineIn, packLocation, locationIn, packThread, threadIn, actionAt, lengthAt, locationAt}
 use Rattle.model.specs.Fields.{locOf, usesX, usesY, closing, locInForm, unusedZero, inForm, isMemory, isRegister, kindFits}
+use Rattle.model.specs.First.{firstFrom}
 use Rattle.audit.specs.Each.{allFrom}
 use Rattle.audit.specs.Programs.{numberOf, equalActions, equalPrograms, newProgram}
 use Rattle.reader.specs.Numbers.{noFields, badFields, fieldsWith, fieldsIn, fieldsOf, areFields, upTo255}
@@ -24,7 +25,7 @@ use Rattle.reader.specs.LLine.{locationOrder21, locationLimits22, locati
 use Rattle.reader.specs.TLine.{threadNames23, threadRefusal, threadOf, threadEntry, threadLine}
 use Rattle.reader.specs.CLine.{claimForm20, pathNames23, claimNames23, claimRefusal, claimOf, claimLine}
 use Rattle.reader.specs.FirstReading.{oneLine, nextLine, wholeRead, readFrom, firstReading}
-use Rattle.reader.specs.SecondReading.{firstFrom, firstBadCode, lineOfLabel, programTwice24, actionSecond, withinFrom, programReading, programsFrom, programsReading, secondReading}
+use Rattle.reader.specs.SecondReading.{firstBadCode, lineOfLabel, programTwice24, actionSecond, withinFrom, programReading, programsFrom, programsReading, secondReading}
 use Rattle.reader.specs.Load.{noModel, modelOf, refusedWith, loadOf}
 
 -- V 1

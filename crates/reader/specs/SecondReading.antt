@@ -9,6 +9,7 @@ use Rattle.terms.specs.Base.{pick, also}
 use Rattle.terms.specs.Line.{termAt}
 use Rattle.model.specs.Records.{actionAt, lengthAt, locationAt}
 use Rattle.model.specs.Fields.{kindFits}
+use Rattle.model.specs.First.{firstFrom}
 use Rattle.model.specs.declared.records.Action.{Action}
 use Rattle.audit.specs.Programs.{newProgram}
 use Rattle.reader.specs.ELine.{codePast}
@@ -19,11 +20,6 @@ use Rattle.reader.specs.declared.second.Within.{Within}
 
 abbrev pub refusal : ℕ → ℕ → Refusal
 refusal n line = record { number = n; line = line }
-
--- the first of n numbers from i on that passes a test, and the one past them where none does
-unfoldable pub firstFrom : ℕ → ℕ → (ℕ → Bool) → ℕ
-firstFrom zero i p = i
-firstFrom (suc n) i p = pick (p i) i (firstFrom n (i + 1) p)
 
 -- the first label that is the code of a program not listed; the count where there is none
 unfoldable pub firstBadCode : List ℕ → ℕ → ℕ → ℕ

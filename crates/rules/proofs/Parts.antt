@@ -10,9 +10,8 @@ use Rattle.model.specs.declared.records.Action.{Action}
 use Rattle.state.specs.Slot.{slotAt}
 use Rattle.state.specs.Code.{wayOf}
 use Rattle.state.specs.Early.{nextAction}
-use Rattle.state.specs.Ended.{endedOne}
-use Rattle.state.specs.Moves.{withSlot, movedOn, jumpedTo, frameMoved}
-use Rattle.state.specs.Launch.{threadLaunched, frameLaunched}
+use Rattle.state.specs.Moves.{frameMoved}
+use Rattle.state.specs.Launch.{frameLaunched}
 use Rattle.state.specs.Hand.{frameHanded}
 use Rattle.state.specs.Reset.{frameReset}
 use Rattle.state.specs.declared.slot.Slot.{Slot}
@@ -20,7 +19,6 @@ use Rattle.state.specs.declared.code.Way.{Way}
 use Rattle.state.specs.declared.code.Way.the-variants as W
 use Rattle.state.specs.declared.control.Frame.{Frame}
 use Rattle.state.specs.declared.control.Control.{Control}
-use Rattle.state.specs.declared.ended.Ended.{Ended}
 use Rattle.state.specs.declared.ended.Ended.the-variants.{Nobody}
 use Rattle.rules.specs.Work.{workAdvance, workBy, lentControl, workOn}
 use Rattle.rules.specs.Happened.{advanceShown, advanceEvent, handEvent, happenedBy, lentFrame, happenedOn, endedAdvance, endedBy, endedOn}

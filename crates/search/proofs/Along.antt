@@ -12,12 +12,12 @@ use Rattle.terms.specs.Base.{pick, Held, held}
 use Rattle.terms.proofs.Back.{Grown, ZeroPast, grown-same, grown-zero}
 use Rattle.model.specs.Fields.{either}
 use Rattle.model.specs.declared.records.Model.{Model}
-use Rattle.state.specs.Code.{wayOf, isCode}
-use Rattle.state.specs.Reason.{Reason, firstOf}
-use Rattle.state.specs.Early.{Sight, reasons, refusalOf, earlyOf}
+use Rattle.state.specs.Code.{isCode}
+use Rattle.state.specs.Early.{Sight, earlyOf}
 use Rattle.state.specs.Seek.{sightOf}
 use Rattle.state.specs.declared.control.Control.{Control}
 use Rattle.state.proofs.Codes.{one-iff}
+use Rattle.state.proofs.Turned.{early-seven}
 use Rattle.rules.specs.Work.{workOn}
 use Rattle.rules.specs.Happened.{happenedOn}
 use Rattle.rules.specs.Made.{controlAfter}
@@ -30,30 +30,16 @@ use Rattle.rules.specs.declared.work.Worked.{Worked}
 use Rattle.rules.specs.declared.work.Worked.the-variants as W
 use Rattle.rules.proofs.Back.{StepKept, refused, permitted, step-kept}
 use Rattle.machine.specs.Claim.{breaksClaim}
-use Rattle.walk.specs.Base.{All, also}
 use Rattle.walk.specs.Machine.{Outcome}
 use Rattle.walk.specs.Machine as O
 use Rattle.walk.specs.Place.{at, landed, wentOn, unbroken}
+use Rattle.walk.proofs.Fit.{both-true}
 use Rattle.law.specs.Rules.{layoutOf}
 use Rattle.law.specs.Machines.{LabelsConf, triedLabels}
 use Rattle.search.specs.Labels.{judgeOf, conf, tryCode, labels}
 use Rattle.search.proofs.Codes.{code-low}
 
 -- Refusals 1 to 7
-
-first-most : (n : ℕ) (rs : List Reason) → All (λ r. r .number ≤ n) rs → firstOf rs ≤ n
-first-most n [] a = omega arith
-first-most n (r ∷ rs) a = go (r .holds) (first-most n rs (a .1))
-  where
-    go : (b : Bool) → firstOf rs ≤ n → pick b (r .number) (firstOf rs) ≤ n
-    go true h = a .0
-    go false h = h
-
-pub early-seven : (g : Sight) (k : ℕ) → earlyOf g k ≤ 7
-unfolding earlyOf refusalOf
-early-seven g k =
-    first-most 7 (reasons g (wayOf k))
-    (omega arith, (omega arith, (omega arith, (omega arith, (omega arith, (omega arith, (omega arith, tt)))))))
 
 abbrev pub sightAt : Model → LabelsConf → Sight
 sightAt m c = sightOf (c .control .frame) (m .actions) (m .locations) (m .«machine_count»)
@@ -177,10 +163,6 @@ landed-events P f c was-refused p = p
 landed-events P f c was-big p = p
 landed-events P f c was-bad p = p
 landed-events P f c (went h g e) p = f (c .events) h (subst P e p)
-
-both-true : (a b : Bool) → also a b ≡ true → (a ≡ true) × (b ≡ true)
-both-true true b e = (refl, e)
-both-true false b e = absurd (let z : _≡_ {A = ℕ} 0 1 = cc in omega arith)
 
 -- along every schedule
 module _ (m : Model) (start : Sane (labels m .fresh)) where

@@ -1,14 +1,13 @@
 -- The claim looks at no label: events with their labels taken out are judged alike.
 use Prim.Native.Nat.{ℕ}
 use mathlib.Core.Path.{_≡_, refl, ap₂}
-use mathlib.Core.Bool.{Bool}
 use mathlib.Core.List.{List, [], _∷_, _++_, map}
-use Rattle.model.specs.Fields.{either}
 use Rattle.model.specs.declared.records.Claim.{Claim}
 use Rattle.rules.specs.declared.event.Event.{Event}
 use Rattle.rules.specs.declared.event.Event.the-variants.{Jump, Launch, Reset, HandOver, Action}
 use Rattle.rules.specs.declared.event.Happening.{Happening}
-use Rattle.machine.specs.Claim.{acceptsOf, madeBy, madeIn, jumpBy, jumpsOf, beginsWith, someOf, pathOf, walkedIn, breaksClaim}
+use Rattle.machine.specs.Claim.{acceptsOf, madeBy, madeIn, jumpBy, jumpsOf, beginsWith, pathOf, walkedIn, breaksClaim}
+use Rattle.machine.proofs.Judged.{some-same}
 use Rattle.law.specs.Meant.{bareEvent, bare}
 use Rattle.law.proofs.Search.{Blind}
 
@@ -40,16 +39,11 @@ unfolding jumpsOf bare
 jumps-blind j [] = refl
 jumps-blind j (h ∷ hs) = ap₂ (λ (a b : List ℕ). a ++ b) (jump-by-blind j (h .event)) (jumps-blind j hs)
 
-some-agree : (f g : ℕ → Bool) → ((j : ℕ) → f j ≡ g j) → (js : List ℕ) → someOf f js ≡ someOf g js
-unfolding someOf
-some-agree f g h [] = refl
-some-agree f g h (j ∷ js) = ap₂ either (h j) (some-agree f g h js)
-
 walked-blind : (c : Claim) (hs : List Happening) → walkedIn c (map bare hs) ≡ walkedIn c hs
 unfolding walkedIn
 walked-blind c hs =
     rw (made-blind c hs)
-    (some-agree (λ j. beginsWith (pathOf c) (jumpsOf j (map bare hs))) (λ j. beginsWith (pathOf c) (jumpsOf j hs)) (λ j. rw (jumps-blind j hs)) (madeIn c hs))
+    (some-same (λ j. beginsWith (pathOf c) (jumpsOf j (map bare hs))) (λ j. beginsWith (pathOf c) (jumpsOf j hs)) (λ j. rw (jumps-blind j hs)) (madeIn c hs))
 
 pub claim-blind : (c : Claim) → Blind (breaksClaim c)
 unfolding breaksClaim

@@ -11,6 +11,7 @@ use borrow.Author.Tests.{eqb-true, eqb-false, ltb-true, ltb-false, ne-eqb, lt-lt
 use Rattle.terms.specs.Base.{pick, also}
 use Rattle.model.specs.Fields.{either}
 use Rattle.model.specs.declared.records.Model.{Model}
+use Rattle.model.proofs.Tests.{both-pass}
 use Rattle.state.specs.Control.{upFrom}
 use Rattle.state.specs.Code.{isCode, codesBelow, codeFrom, codeAfter}
 use Rattle.state.specs.Seek.{sightOf}
@@ -29,17 +30,13 @@ allBelow : ℕ → (ℕ → Bool) → Bool
 allBelow zero p = true
 allBelow (suc n) p = also (p n) (allBelow n p)
 
-both : (a b : Bool) → also a b ≡ true → (a ≡ true) × (b ≡ true)
-both true b e = (refl, e)
-both false b e = absurd (let z : _≡_ {A = ℕ} 0 1 = cc in omega arith)
-
 all-below : (n : ℕ) (p : ℕ → Bool) → allBelow n p ≡ true → (k : ℕ) → k < n → p k ≡ true
 unfolding allBelow
 all-below zero p e k h = absurd (omega arith)
-all-below (suc n) p e k h = go (eqb k n) refl (all-below n p (both (p n) (allBelow n p) e .1) k)
+all-below (suc n) p e k h = go (eqb k n) refl (all-below n p (both-pass (p n) (allBelow n p) e .1) k)
   where
     go : (b : Bool) → eqb k n ≡ b → (k < n → p k ≡ true) → p k ≡ true
-    go true f ih = rw (eqb-true k n f) (both (p n) (allBelow n p) e .0)
+    go true f ih = rw (eqb-true k n f) (both-pass (p n) (allBelow n p) e .0)
     go false f ih = let ne : k ≡ n → ⊥ = eqb-false k n f in ih (omega arith)
 
 -- numbers in a row rise
@@ -117,10 +114,10 @@ record Tested (k : ℕ) : Type 0 where
 tested : (k : ℕ) → k < 165 → Tested k
 unfolding codesTest
 tested k h =
-    let t = both _ _ (all-below 165 codesTest codes-test k h) in
-    let u = both _ _ (t .1) in
-    let v = both _ _ (u .1) in
-    let w = both _ _ (v .1) in
+    let t = both-pass _ _ (all-below 165 codesTest codes-test k h) in
+    let u = both-pass _ _ (t .1) in
+    let v = both-pass _ _ (u .1) in
+    let w = both-pass _ _ (v .1) in
     record {
       code = same-bool (isCode k) (among k realCodes) (t .0);
       below = eqb-true _ _ (u .0);
@@ -323,6 +320,14 @@ nth-code n h =
 
 -- The machine's codes
 
+-- what is not among the codes is none
+pub not-code : (k : ℕ) → ¬ List·Memᴰ k realCodes → isCode k ≡ false
+not-code k f = go (isCode k) refl
+  where
+    go : (b : Bool) → isCode k ≡ b → b ≡ false
+    go true e = absurd (f (code-mem k e))
+    go false e = refl
+
 pub labels-coded : (m : Model) → Coded (labels m)
 unfolding tryCode stepOn
 labels-coded m = record {
@@ -330,10 +335,3 @@ labels-coded m = record {
   below = codes-below;
   only = λ c k f. rw (one-iff (sightOf (c .control .frame) (m .actions) (m .locations) (m .«machine_count»)) k .1 (not-code k f));
 }
-  where
-    not-code : (k : ℕ) → ¬ List·Memᴰ k realCodes → isCode k ≡ false
-    not-code k f = go (isCode k) refl
-      where
-        go : (b : Bool) → isCode k ≡ b → b ≡ false
-        go true e = absurd (f (code-mem k e))
-        go false e = refl

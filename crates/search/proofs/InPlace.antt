@@ -1,135 +1,246 @@
--- One turn of the walk over rows: what is made in place is what the definitions keep on the stack.
+-- A turn over rows is a turn of the definitions: what is made in place is what they keep on the stack.
 use Prim.Native.Nat.{ℕ, _+_, _<_}
 use mathlib.Core.Bool.{Bool, true, false}
 use mathlib.Core.List.{List, []}
-use mathlib.Core.Path.{_≡_, sym, ap, _∙_}
+use mathlib.Core.Path.{_≡_, refl, sym}
 use native.Mathlib.Omega.{arith}
-use lib.ListN.{length, getD, set}
+use lib.ListN.{length, set, length-set}
 use lib.Seq.{getD-set-same, getD-set-other, set-set}
+use Rattle.terms.specs.Base.{pick, Held, held}
 use Rattle.model.specs.declared.records.Model.{Model}
 use Rattle.state.specs.declared.control.Control.{Control}
-use Rattle.state.specs.declared.control.Frame.{Frame}
 use Rattle.rules.specs.Event.{recordOf, recordPut}
-use Rattle.rules.specs.Happened.{happenedOn, lentFrame}
+use Rattle.rules.specs.Happened.{happenedOn}
 use Rattle.rules.specs.Made.{controlAfter}
-use Rattle.rules.specs.declared.event.Happening.{Happening}
-use Rattle.rules.specs.declared.event.Record.{Record}
 use Rattle.rules.specs.Parts.{Rest, rest, controlWith, slotsMade, restMade}
-use Rattle.rules.specs.declared.made.Counters.{Counters}
+use Rattle.rules.specs.declared.event.Happening.{Happening}
 use Rattle.quiet.specs.Quiet.{deepest}
 use Rattle.law.specs.Rules.{layoutOf}
-use Rattle.search.specs.Place.{Level, pushed}
-use Rattle.search.specs.Rows.{controlFrom, noCounts, countersOf, countsOf}
-use Rattle.search.specs.Turn.{Lent, lent, turnOn}
-use Rattle.search.specs.Search.{Scene, scene, sheetsOf, quietAt, passesSoon, spentAll, pastLate, sceneAfter, turnedOn}
-use Rattle.search.specs.declared.rows.Counts.{Counts}
+use Rattle.search.specs.Place.{levelOf, pushed}
+use Rattle.search.specs.Rows.{countersOf, countsOf}
+use Rattle.search.specs.Turn.{standsAt, Lent, lent, turnOn}
+use Rattle.search.specs.Search.{Scene, scene, sheetsOf, quietAt, passesSoon, passesLate, spentAll, enteredFrom, sceneAfter, turnedOn}
+use Rattle.search.specs.Ahead.{Rows, rows, Others, others, Stood, stood, rowAt, countAt, controlOn, copied, restRows, noted, enteredRows}
+use Rattle.search.specs.Ahead.{lentStood, advancedBy, advancedRows}
 use Rattle.search.specs.declared.place.Place.{Place}
 use Rattle.search.specs.declared.turn.Walk.{Walk}
 use Rattle.search.specs.declared.turn.Turned.{Turned}
 use Rattle.search.specs.declared.turn.Task.{Task}
-use Rattle.search.proofs.Stacked.{Long, stacked, stacked-at, stacked-set, depths, depths-at, depths-set}
+use Rattle.search.proofs.Stacked.{Long, stackOf, stacked-at, stacked-set, depths, depths-at, depths-set}
 use Rattle.rules.proofs.Parts.{made-rows, happened-lent}
 
+-- the scene that rows stand for
+abbrev pub sceneOf : Lent Stood → Scene
+sceneOf y = scene (y .out .walk) (stackOf (y .out .rows)) (depths (y .out .rows .others .counts)) (y .table) (y .records) (y .room)
+
 -- a row copied to the place after it, and changed there
-abbrev pub copied : {A : Type 0} → List (List A) → ℕ → List (List A)
-copied ls level = set ls (level + 1) (getD ls level [])
+copied-at : (ls : List (List ℕ)) (i : ℕ) → i + 1 < length ls → rowAt (copied ls i) (i + 1) ≡ rowAt ls i
+copied-at ls i h = getD-set-same ls (i + 1) (rowAt ls i) [] h
 
-abbrev pub changed : {A : Type 0} → List (List A) → ℕ → List A → List (List A)
-changed ls level a = set (copied ls level) (level + 1) a
+put-at : (ls : List (List ℕ)) (i : ℕ) (a : List ℕ) → i + 1 < length ls → rowAt (set ls (i + 1) a) (i + 1) ≡ a
+put-at ls i a h = getD-set-same ls (i + 1) a [] h
 
-copied-at : {A : Type 0} (ls : List (List A)) (level : ℕ) → level + 1 < length ls → getD (copied ls level) (level + 1) [] ≡ getD ls level []
-copied-at ls level h = getD-set-same ls (level + 1) (getD ls level []) [] h
+before-at : (ls : List (List ℕ)) (i : ℕ) (a : List ℕ) → rowAt (set ls (i + 1) a) i ≡ rowAt ls i
+before-at ls i a = getD-set-other ls (i + 1) i a [] (λ e. omega arith)
 
-changed-at : {A : Type 0} (ls : List (List A)) (level : ℕ) (a : List A) → level + 1 < length ls
-    → getD (changed ls level a) (level + 1) [] ≡ a
-changed-at ls level a h = rw set-set (getD-set-same ls (level + 1) a [] h)
+three-ways : (f : Held Stood → Scene) (soon late late₁ : Bool) (a b c : Held Stood) (a₁ b₁ c₁ : Scene)
+    → f a ≡ a₁ → late ≡ late₁ → f b ≡ b₁ → f c ≡ c₁ → f (pick soon a (pick late b c)) ≡ pick soon a₁ (pick late₁ b₁ c₁)
+three-ways f true late late₁ a b c a₁ b₁ c₁ p e q r = p
+three-ways f false true late₁ a b c a₁ b₁ c₁ p e q r = rw (← e, q)
+three-ways f false false late₁ a b c a₁ b₁ c₁ p e q r = rw (← e, r)
 
-before-at : {A : Type 0} (ls : List (List A)) (level : ℕ) (a : List A) → getD (set ls (level + 1) a) level [] ≡ getD ls level []
-before-at ls level a = getD-set-other ls (level + 1) level a [] (λ e. omega arith)
+two-ways : (b : Bool) (x y : Lent Stood) (x₁ y₁ : Scene) → sceneOf x ≡ x₁ → sceneOf y ≡ y₁ → sceneOf (pick b x y) ≡ pick b x₁ y₁
+two-ways true x y x₁ y₁ p q = p
+two-ways false x y x₁ y₁ p q = q
 
-abbrev pub rowsAt : List (List ℕ) → List (List ℕ) → List (List ℕ) → List (List ℕ) → List Counts → ℕ → Control
-rowsAt ss ls vs xs cs level = controlFrom (getD ss level []) (getD ls level []) (getD vs level []) (getD xs level []) (getD cs level noCounts)
+long-three : (soon late : Bool) (a b c : Held Stood) → Long (a .out .rows) → Long (b .out .rows) → Long (c .out .rows)
+    → Long (pick soon a (pick late b c) .out .rows)
+long-three true late a b c p q r = p
+long-three false true a b c p q r = q
+long-three false false a b c p q r = r
 
-module _ (m : Model) (k : Task) (w : Walk) (ss ls vs xs : List (List ℕ)) (cs : List Counts) (t l room : List ℕ) (level : ℕ)
-    (long : Long ss ls vs xs cs) (lev : Level (w .place .length) level) (r : Turned) (t₁ l₁ room₁ : List ℕ)
-    (e : lent r t₁ l₁ room₁ ≡ turnOn t l room (rowsAt ss ls vs xs cs level) w (sheetsOf m) k) where
-  after-is : turnedOn m k (scene w (stacked ss ls vs xs cs) (depths cs) t l room)
-      ≡ sceneAfter m k (lent r t₁ l₁ room₁) (w .place) (rowsAt ss ls vs xs cs level) (getD cs level noCounts .deep) level (stacked ss ls vs xs cs) (depths cs)
-  unfolding turnedOn
+long-two : (b : Bool) (x y : Lent Stood) → Long (x .out .rows) → Long (y .out .rows) → Long (pick b x y .out .rows)
+long-two true x y p q = p
+long-two false x y p q = q
+
+-- the step that turn r found at place p
+module _ (m : Model) (k : Task) (x : Rows) (long : Long x) (p : Place) (r : Turned) (t l room : List ℕ) where
+  abbrev i : ℕ
+  i = levelOf (p .length)
+
+  abbrev o : Others
+  o = x .others
+
+  abbrev s : Control
+  s = controlOn x i
+
+  abbrev after : List ℕ
+  after =
+      slotsMade (rowAt (x .slots) i) (m .actions) (m .lengths) (m .machines) (countAt (o .counts) i .serial) (r .code) (r .labels .program)
+
+  abbrev made : Rest
+  made =
+      restMade
+      (rowAt (x .slots) i)
+      (rest (countersOf (countAt (o .counts) i)) (rowAt (o .locks) i) (rowAt (o .values) i) (rowAt (o .vars) i))
+      (layoutOf m)
+      (r .code)
+      (r .labels)
+
+  abbrev deep : ℕ
+  deep = deepest t (countAt (o .counts) i .deep) (countAt (o .counts) i .count) (r .labels .count)
+
+  abbrev made-others : Others
+  made-others =
+      others
+      (set (o .locks) (i + 1) (made .locks))
+      (set (o .values) (i + 1) (made .values))
+      (set (o .vars) (i + 1) (made .vars))
+      (set (o .counts) (i + 1) (countsOf (made .counters) (r .labels .count) deep))
+
+  abbrev put : Others
+  put = restRows (rowAt (x .slots) i) o (p .length) deep (layoutOf m) r
+
+  rest-is : put ≡ made-others
+  unfolding restRows
+  rest-is =
+      rw (
+        copied-at (o .locks) i (rw (long .locks) (omega arith)),
+        copied-at (o .values) i (rw (long .values) (omega arith)),
+        copied-at (o .vars) i (rw (long .vars) (omega arith)),
+        set-set (o .locks) (i + 1) _ (made .locks),
+        set-set (o .values) (i + 1) _ (made .values),
+        set-set (o .vars) (i + 1) _ (made .vars),
+      )
+
+  abbrev control : Control
+  control = controlWith after made (r .labels .count)
+
+  abbrev there : Others → Rows
+  there q = rows (set (x .slots) (i + 1) after) q
+
+  stack-is : stackOf (there made-others) ≡ set (stackOf x) (i + 1) control
+  stack-is =
+      sym
+      (stacked-set after (made .locks) (made .values) (made .vars) (countsOf (made .counters) (r .labels .count) deep) (i + 1)
+      (x .slots) (o .locks) (o .values) (o .vars) (o .counts))
+
+  deeps-is : depths (made-others .counts) ≡ set (depths (o .counts)) (i + 1) deep
+  deeps-is = sym (depths-set (countsOf (made .counters) (r .labels .count) deep) (i + 1) (o .counts))
+
+  abbrev happening : Happening
+  happening = happenedOn (s .frame) (m .actions) (m .lengths) (r .code) (r .labels)
+
+  noted-is : noted l (rowAt (set (x .slots) (i + 1) after) i) (countAt (o .counts) i .serial) (m .actions) (m .lengths) (p .length) r
+      ≡ recordPut l (p .length) (recordOf happening)
+  unfolding noted
+  noted-is = rw (before-at (x .slots) i after, happened-lent (s .frame) (m .actions) (m .lengths) (r .code) (r .labels))
+
+  abbrev shown : Held Stood → Scene
+  shown y = sceneOf (lentStood y t room)
+
+  kept-is : (w : Walk) (n : List ℕ) → shown (held (stood w (there made-others)) n)
+      ≡ scene w (set (stackOf x) (i + 1) control) (set (depths (o .counts)) (i + 1) deep) t n room
+  kept-is w n = rw (stack-is, deeps-is)
+
+  abbrev quiet : Bool
+  quiet = quietAt (r .walk .left) (p .length) k after (m .lengths) (r .labels .count)
+
+  abbrev late : List ℕ → List ℕ → Bool
+  late vs xs = passesLate quiet t after vs xs (m .actions)
+
+  abbrev stands : Walk
+  stands = standsAt (r .walk) (r .walk .found) (pushed p (r .code)) (r .labels .count) true
+
+  abbrev soon : Bool
+  soon = passesSoon quiet deep (k .listed) t after (m .actions)
+
+  -- passed soon, passed late, entered
+  abbrev first : Held Stood
+  first = held (stood (spentAll (r .walk)) x) l
+
+  abbrev second : Others → Held Stood
+  second q = held (stood (spentAll (r .walk)) (there q)) l
+
+  abbrev third : Others → Held Stood
+  third q =
+      held (stood stands (there q)) (noted l (rowAt (there q .slots) i) (countAt (o .counts) i .serial) (m .actions) (m .lengths) (p .length) r)
+
+  late-is : late (rowAt (made-others .values) (i + 1)) (rowAt (made-others .vars) (i + 1)) ≡ late (made .values) (made .vars)
+  late-is =
+      rw (
+        put-at (o .values) i (made .values) (rw (long .values) (omega arith)),
+        put-at (o .vars) i (made .vars) (rw (long .vars) (omega arith)),
+      )
+
+  entered-is : shown (enteredRows t l x p r (layoutOf m) k)
+      ≡ enteredFrom m k (lent r t l room) p happening (controlAfter s (layoutOf m) (r .code) (r .labels)) deep i (stackOf x) (depths (o .counts))
+  unfolding enteredRows
+  entered-is =
+      let made-is = made-rows (rowAt (x .slots) i) (rowAt (o .locks) i) (rowAt (o .values) i) (rowAt (o .vars) i)
+      (countersOf (countAt (o .counts) i)) (countAt (o .counts) i .count) (layoutOf m) (r .labels) (r .code) in
+      rw (made-is, rest-is)
+      (three-ways
+      shown
+      soon
+      (late (rowAt (made-others .values) (i + 1)) (rowAt (made-others .vars) (i + 1)))
+      (late (made .values) (made .vars))
+      first
+      (second made-others)
+      (third made-others)
+      _
+      _
+      _
+      refl
+      late-is
+      (kept-is (spentAll (r .walk)) l)
+      (rw noted-is (kept-is stands _)))
+
+  long-there : Long (there put)
+  unfolding restRows
+  long-there = record {
+    slots = rw length-set (long .slots);
+    locks = rw (length-set, length-set) (long .locks);
+    values = rw (length-set, length-set) (long .values);
+    vars = rw (length-set, length-set) (long .vars);
+    counts = rw length-set (long .counts);
+  }
+
+  long-entered : Long (enteredRows t l x p r (layoutOf m) k .out .rows)
+  unfolding enteredRows
+  long-entered =
+      long-three soon (late (rowAt (put .values) (i + 1)) (rowAt (put .vars) (i + 1))) first (second put) (third put) long long-there long-there
+
+  pub after-is : sceneOf (advancedBy (lent r t l room) x p (layoutOf m) k)
+      ≡ sceneAfter m k (lent r t l room) p s (countAt (o .counts) i .deep) i (stackOf x) (depths (o .counts))
   after-is =
-      let h = lev .small in
-      let at = stacked-at level ss ls vs xs cs (rw (long .slots) (omega arith)) (rw (long .locks) (omega arith)) (rw (long .values) (omega arith))
+      two-ways
+      (r .enters)
+      (lentStood (enteredRows t l x p r (layoutOf m) k) t room)
+      (lent (stood (r .walk) x) t l room)
+      _
+      _
+      entered-is
+      refl
+
+  pub long-after : Long (advancedBy (lent r t l room) x p (layoutOf m) k .out .rows)
+  long-after =
+      long-two (r .enters) (lentStood (enteredRows t l x p r (layoutOf m) k) t room) (lent (stood (r .walk) x) t l room) long-entered long
+
+module _ (m : Model) (k : Task) (t l room : List ℕ) (x : Rows) (w : Walk) (long : Long x) where
+  -- a turn over rows
+  pub turned-rows : sceneOf (advancedRows t l room x w (layoutOf m) k) ≡ turnedOn m k (scene w (stackOf x) (depths (x .others .counts)) t l room)
+  unfolding turnedOn advancedRows
+  turned-rows =
+      let i : ℕ = levelOf (w .place .length) in
+      let y : Lent Turned = turnOn t l room (controlOn x i) w (sheetsOf m) k in
+      let at = stacked-at i (x .slots) (x .others .locks) (x .others .values) (x .others .vars) (x .others .counts)
+      (rw (long .slots) (omega arith)) (rw (long .locks) (omega arith)) (rw (long .values) (omega arith))
       (rw (long .vars) (omega arith)) (rw (long .counts) (omega arith)) in
-      rw (← (lev .is), at, depths-at level cs, ← e)
+      rw (at, depths-at i (x .others .counts)) (after-is m k x long (w .place) (y .out) (y .table) (y .records) (y .room))
 
-  pub turned-still : r .enters ≡ false
-      → turnedOn m k (scene w (stacked ss ls vs xs cs) (depths cs) t l room) ≡ scene (r .walk) (stacked ss ls vs xs cs) (depths cs) t₁ l₁ room₁
-  turned-still i = rw (after-is, i)
-
-  module _ (i : r .enters ≡ true) (d : ℕ) (s₁ : List ℕ) (quiet soon : Bool)
-      (deep : d ≡ deepest t₁ (getD cs level noCounts .deep) (getD cs level noCounts .count) (r .labels .count))
-      (slots : s₁ ≡ slotsMade (getD ss level []) (m .actions) (m .lengths) (m .machines) (getD cs level noCounts .serial) (r .code) (r .labels .program))
-      (q : quiet ≡ quietAt (r .walk .left) (w .place .length) k s₁ (m .lengths) (r .labels .count)) (p : soon ≡ passesSoon quiet d (k .listed)) where
-    abbrev restAt : Rest
-    restAt =
-        restMade (getD ss level [])
-        (rest (countersOf (getD cs level noCounts)) (getD ls level []) (getD vs level []) (getD xs level []))
-        (layoutOf m)
-        (r .code)
-        (r .labels)
-
-    made-is : controlAfter (rowsAt ss ls vs xs cs level) (layoutOf m) (r .code) (r .labels) ≡ controlWith s₁ restAt (r .labels .count)
-    made-is =
-        made-rows
-        (getD ss level [])
-        (getD ls level [])
-        (getD vs level [])
-        (getD xs level [])
-        (countersOf (getD cs level noCounts))
-        (getD cs level noCounts .count)
-        (layoutOf m)
-        (r .labels)
-        (r .code)
-        ∙ ap (λ (z : List ℕ). controlWith z restAt (r .labels .count)) (sym slots)
-
-    pub turned-soon : soon ≡ true → (v : Walk) → v ≡ spentAll (r .walk)
-        → turnedOn m k (scene w (stacked ss ls vs xs cs) (depths cs) t l room) ≡ scene v (stacked ss ls vs xs cs) (depths cs) t₁ l₁ room₁
-    turned-soon z v f = rw (after-is, i, made-is, ← deep, ← q, ← p, z, f)
-
-    pub turned-late : soon ≡ false → (e₁ : Happening) (a : Record) (o : Place) (b n : Counters) (c : Counts) (l₂ v₂ x₂ l₃ : List ℕ) (v : Walk)
-        → e₁ ≡ happenedOn (lentFrame (getD ss level []) (getD cs level noCounts .serial)) (m .actions) (m .lengths) (r .code) (r .labels)
-        → a ≡ recordOf e₁
-        → l₃ ≡ recordPut l₁ (w .place .length) a
-        → b ≡ countersOf (getD cs level noCounts)
-        → rest n l₂ v₂ x₂
-        ≡ restMade (getD (set ss (level + 1) s₁) level [])
-        (rest b (getD (copied ls level) (level + 1) []) (getD (copied vs level) (level + 1) []) (getD (copied xs level) (level + 1) []))
-        (layoutOf m) (r .code) (r .labels)
-        → c ≡ countsOf n (r .labels .count) d
-        → o ≡ pushed (w .place) (r .code)
-        → v
-        ≡ pastLate (r .walk) o (r .labels .count) quiet t₁ s₁
-        (getD (changed vs level v₂) (level + 1) [])
-        (getD (changed xs level x₂) (level + 1) [])
-        (m .actions)
-        → turnedOn m k (scene w (stacked ss ls vs xs cs) (depths cs) t l room)
-        ≡ scene v
-        (stacked (set ss (level + 1) s₁) (changed ls level l₂) (changed vs level v₂) (changed xs level x₂) (set cs (level + 1) c))
-        (depths (set cs (level + 1) c)) t₁ l₃ room₁
-    turned-late z e₁ a o b n c l₂ v₂ x₂ l₃ v he ha hl f g h ho j =
-        let small = lev .small in
-        let ol : level + 1 < length ls = rw (long .locks) (omega arith) in
-        let ov : level + 1 < length vs = rw (long .values) (omega arith) in
-        let ox : level + 1 < length xs = rw (long .vars) (omega arith) in
-        let g₁ : rest n l₂ v₂ x₂ ≡ restAt =
-        g ∙ rw (before-at ss level s₁, copied-at ls level ol, copied-at vs level ov, copied-at xs level ox, f) in
-        let f₀ : Frame = rowsAt ss ls vs xs cs level .frame in
-        let put : recordPut l₁ (w .place .length) (recordOf (happenedOn f₀ (m .actions) (m .lengths) (r .code) (r .labels))) ≡ l₃ =
-        rw (happened-lent f₀ (m .actions) (m .lengths) (r .code) (r .labels), ← he, ← ha, ← hl) in
-        let j₁ : v ≡ pastLate (r .walk) (pushed (w .place) (r .code)) (r .labels .count) quiet t₁ s₁ v₂ x₂ (m .actions) =
-        j ∙ rw (changed-at vs level v₂ ov, changed-at xs level x₂ ox, ho) in
-        let set₁ : set (stacked ss ls vs xs cs) (level + 1) (controlFrom s₁ l₂ v₂ x₂ c)
-        ≡ stacked (set ss (level + 1) s₁) (changed ls level l₂) (changed vs level v₂) (changed xs level x₂) (set cs (level + 1) c) =
-        rw (set-set ls (level + 1) _ l₂, set-set vs (level + 1) _ v₂, set-set xs (level + 1) _ x₂)
-        (stacked-set s₁ l₂ v₂ x₂ c (level + 1) ss ls vs xs cs) in
-        rw (after-is, i, put, made-is, ← deep, ← q, ← p, z, ← g₁, ← j₁, ← set₁, ← (depths-set c (level + 1) cs), h)
+  pub long-rows : Long (advancedRows t l room x w (layoutOf m) k .out .rows)
+  unfolding advancedRows
+  long-rows =
+      let y : Lent Turned = turnOn t l room (controlOn x (levelOf (w .place .length))) w (sheetsOf m) k in
+      long-after m k x long (w .place) (y .out) (y .table) (y .records) (y .room)

@@ -5,41 +5,27 @@ use mathlib.Core.Bool.{Bool, true, false}
 use mathlib.Core.List.{List, [], _∷_}
 use mathlib.Core.Path.{_≡_, refl, ap, _∙_}
 use native.Mathlib.Omega.{arith}
-use lib.ListN.{length, getD, set, replicate, length-set, length-append, length-replicate}
-use lib.Seq.{sets, length-sets, getD-set-same, getD-set-other}
+use lib.ListN.{length, getD, replicate, length-append, length-replicate}
+use lib.Seq.{sets, length-sets}
 use lib.Dec.{ltb}
 use borrow.Author.Tests.{le-ltb}
 use Rattle.terms.specs.Base.{pick}
+use Rattle.machine.proofs.Recording.{sets-below, sets-past, sets-at}
 use Rattle.search.specs.Shown.{padded, wordPut, wordsPut}
-
--- numbers stored one after another
-sets-below : (vs l : List ℕ) (i p : ℕ) → p < i → getD (sets l i vs) p 0 ≡ getD l p 0
-sets-below [] l i p h = refl
-sets-below (v ∷ vs) l i p h = sets-below vs (set l i v) (suc i) p (omega arith) ∙ getD-set-other l i p v 0 (omega arith)
-
-sets-past : (vs l : List ℕ) (i p : ℕ) → i + length vs ≤ p → getD (sets l i vs) p 0 ≡ getD l p 0
-sets-past [] l i p h = refl
-sets-past (v ∷ vs) l i p h = sets-past vs (set l i v) (suc i) p (omega arith) ∙ getD-set-other l i p v 0 (omega arith)
-
-sets-at : (vs l : List ℕ) (i c : ℕ) → c < length vs → i + length vs ≤ length l → getD (sets l i vs) (i + c) 0 ≡ getD vs c 0
-sets-at [] l i c h g = absurd (omega arith)
-sets-at (v ∷ vs) l i zero h g =
-    let e : i + 0 ≡ i = omega arith in
-    rw e (sets-below vs (set l i v) (suc i) i (omega arith) ∙ getD-set-same l i v 0 (omega arith))
-sets-at (v ∷ vs) l i (suc c) h g =
-    let e : i + suc c ≡ suc i + c = omega arith in
-    rw e (sets-at vs (set l i v) (suc i) c (omega arith) (omega (arith, length-set l i v)))
 
 -- a schedule of at most 24 codes takes 25 places
 abbrev pub rowOf : List ℕ → List ℕ
 rowOf w = length w ∷ padded w
 
-row-long : (w : List ℕ) → length w ≤ 24 → length (rowOf w) ≡ 25
+pub padded-long : (w : List ℕ) → length w ≤ 24 → length (padded w) ≡ 24
 unfolding padded
-row-long w h = ap suc (length-append w (replicate (24 - length w) 0) ∙ rw (length-replicate {A = ℕ} (24 - length w) 0) (omega arith))
+padded-long w h = length-append w (replicate (24 - length w) 0) ∙ rw (length-replicate {A = ℕ} (24 - length w) 0) (omega arith)
+
+row-long : (w : List ℕ) → length w ≤ 24 → length (rowOf w) ≡ 25
+row-long w h = ap suc (padded-long w h)
 
 -- one row
-put-long : (l : List ℕ) (i : ℕ) (w : List ℕ) → length (wordPut l i w) ≡ length l
+pub put-long : (l : List ℕ) (i : ℕ) (w : List ℕ) → length (wordPut l i w) ≡ length l
 unfolding wordPut
 put-long l i w = go (ltb (length l) (i * 25 + 25))
   where
@@ -47,23 +33,23 @@ put-long l i w = go (ltb (length l) (i * 25 + 25))
     go true = refl
     go false = length-sets l (i * 25) (rowOf w)
 
-put-below : (l : List ℕ) (i : ℕ) (w : List ℕ) (p : ℕ) → p < i * 25 → getD (wordPut l i w) p 0 ≡ getD l p 0
+-- a row that is put changes what its numbers change, one for which there is no room nothing
+put-keeps : (l : List ℕ) (i : ℕ) (w : List ℕ) (p : ℕ) → getD (sets l (i * 25) (rowOf w)) p 0 ≡ getD l p 0 → getD (wordPut l i w) p 0 ≡ getD l p 0
 unfolding wordPut
-put-below l i w p h = go (ltb (length l) (i * 25 + 25))
+put-keeps l i w p h = go (ltb (length l) (i * 25 + 25))
   where
     go : (b : Bool) → getD (pick b l (sets l (i * 25) (rowOf w))) p 0 ≡ getD l p 0
     go true = refl
-    go false = sets-below (rowOf w) l (i * 25) p h
+    go false = h
+
+put-below : (l : List ℕ) (i : ℕ) (w : List ℕ) (p : ℕ) → p < i * 25 → getD (wordPut l i w) p 0 ≡ getD l p 0
+put-below l i w p h = put-keeps l i w p (sets-below (rowOf w) l (i * 25) p h)
 
 put-past : (l : List ℕ) (i : ℕ) (w : List ℕ) (p : ℕ) → length w ≤ 24 → i * 25 + 25 ≤ p → getD (wordPut l i w) p 0 ≡ getD l p 0
-unfolding wordPut
-put-past l i w p s h = go (ltb (length l) (i * 25 + 25))
-  where
-    go : (b : Bool) → getD (pick b l (sets l (i * 25) (rowOf w))) p 0 ≡ getD l p 0
-    go true = refl
-    go false = sets-past (rowOf w) l (i * 25) p (omega (arith, row-long w s))
+put-past l i w p s h = put-keeps l i w p (sets-past (rowOf w) l (i * 25) p (omega (arith, row-long w s)))
 
-put-at : (l : List ℕ) (i : ℕ) (w : List ℕ) (c : ℕ) → length w ≤ 24 → i * 25 + 25 ≤ length l → c < 25 → getD (wordPut l i w) (i * 25 + c) 0 ≡ getD (rowOf w) c 0
+pub put-at : (l : List ℕ) (i : ℕ) (w : List ℕ) (c : ℕ) → length w ≤ 24 → i * 25 + 25 ≤ length l → c < 25
+    → getD (wordPut l i w) (i * 25 + c) 0 ≡ getD (rowOf w) c 0
 unfolding wordPut
 put-at l i w c s h g =
     rw (le-ltb (length l) (i * 25 + 25) h) (sets-at (rowOf w) l (i * 25) c (omega (arith, row-long w s)) (omega (arith, row-long w s)))

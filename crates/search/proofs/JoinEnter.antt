@@ -14,6 +14,7 @@ use Rattle.terms.proofs.Back.{Grown, grown-same, grown-then}
 use Rattle.model.specs.declared.records.Model.{Model}
 use Rattle.state.specs.Control.{freshControl}
 use Rattle.state.specs.declared.control.Control.{Control}
+use Rattle.state.proofs.Threads.{never}
 use Rattle.rules.specs.Event.{recordOf, recordPut}
 use Rattle.rules.specs.Made.{controlAfter}
 use Rattle.rules.specs.declared.event.Happening.{Happening}
@@ -190,13 +191,10 @@ module _ (m : Model) (start : Sane (labels m .fresh)) (J : Judging m) (p : Place
     pub entry : e .out .good ≡ true → Entry (p .length) (climb (e .out .stack) (e .out .place) (e .table) (e .records))
     pub next : e .out .good ≡ true → e .out .place .next ≡ p .next
 
-  clash : (b : Bool) → b ≡ true → b ≡ false → ⊥
-  clash b e f = let z : _≡_ {A = ℕ} 0 1 = cc in omega arith
-
   fails : (d i : ℕ) → d + suc i ≡ p .length → unbroken M (stackOf ds (suc i)) ≡ false → (q : Place) (x : Climb) → Enters (entered false q x)
   fails d i e f q x =
       let g : unbroken M (stackOf ds (p .length)) ≡ false = ap (λ (k : ℕ). unbroken M (stackOf ds k)) (sym e) ∙ broken-on d (suc i) f in
-      record { good = sym g; entry = λ z. absurd (clash false z refl); next = λ z. absurd (clash false z refl) }
+      record { good = sym g; entry = λ z. absurd (never false z refl); next = λ z. absurd (never false z refl) }
 
   by-went : (d i : ℕ) (l : d + suc i ≡ p .length) (h : i < p .length) (x : Climb) (v : Entry i x) (rest : Climb → Climbed Entered) →
       ((y : Climb) → Entry (suc i) y → Enters (rest y)) → {r : Held Stepped} → Went m (c i h x v) (code i h x v) r →

@@ -1,7 +1,8 @@
 -- A schedule passed whole, from which nothing is entered: what the tests before it say, and where the walk stands behind it.
 use Prim.Native.Nat.{ℕ, suc, _+_, _<_, _≤_}
-use mathlib.Core.Bool.{Bool, true, false}
+use mathlib.Core.Bool.{Bool, true, false, not}
 use mathlib.Core.List.{List, []}
+use mathlib.Core.Logic.{_⊎_, inl, inr}
 use mathlib.Core.Path.{_≡_, refl, sym, ap₂, _∙_}
 use native.Mathlib.Omega.{arith}
 use lib.ListN.{length, getD, set, length-set}
@@ -9,29 +10,23 @@ use lib.Seq.{ext-getD, getD-set-same, getD-set-other}
 use lib.Dec.{eqb, ltb, leb}
 use borrow.Author.Tests.{ltb-false, leb-true, eqb-true, eqb-false}
 use Rattle.terms.specs.Base.{pick}
+use Rattle.terms.proofs.Check.{unless-pass}
 use Rattle.model.specs.declared.records.Model.{Model}
+use Rattle.model.proofs.Tests.{both-pass}
 use Rattle.walk.specs.Place.{from}
 use Rattle.walk.specs.Array.{settledIn}
 use Rattle.walk.proofs.Loop.{ZeroPast}
-use Rattle.quiet.specs.Quiet.{allFit, calm, shallow}
+use Rattle.quiet.specs.Quiet.{allFit, allNear, calm, shallow}
 use Rattle.quiet.specs.declared.quiet.Listed.{Listed}
 use Rattle.search.specs.Labels.{realCodes, labels}
 use Rattle.search.specs.Search.{atLast, quietAt, passesSoon, passesLate}
 use Rattle.search.specs.declared.turn.Task.{Task}
 
-both-true : (a b : Bool) → pick a b false ≡ true → (a ≡ true) × (b ≡ true)
-both-true true b e = (refl, e)
-both-true false b e = absurd (let z : _≡_ {A = ℕ} 0 1 = cc in omega arith)
-
-last-by : (a b : Bool) → pick a false b ≡ true → (a ≡ false) × (b ≡ true)
-last-by true b e = absurd (let z : _≡_ {A = ℕ} 0 1 = cc in omega arith)
-last-by false b e = (refl, e)
-
 -- there is budget for all its codes, and nothing is entered from it
 last-parts : (left n bound : ℕ) → atLast left n bound ≡ true → (160 ≤ left) × (bound ≤ n + 2)
 unfolding atLast
 last-parts left n bound e =
-    let h = last-by (ltb left 160) (leb bound (n + 2)) e in
+    let h = unless-pass (ltb left 160) (leb bound (n + 2)) e in
     (ltb-false left 160 (h .0), leb-true bound (n + 2) (h .1))
 
 -- the schedule is one longer than n
@@ -44,18 +39,24 @@ pub quiet-parts : (left n : ℕ) (k : Task) (slots lengths : List ℕ) (count : 
     Quieted left n k slots lengths count
 unfolding quietAt
 quiet-parts left n k slots lengths count e =
-    let h = both-true (atLast left n (k .bound)) (calm slots lengths count (k .listed)) e in
+    let h = both-pass (atLast left n (k .bound)) (calm slots lengths count (k .listed)) e in
     let l = last-parts left n (k .bound) (h .0) in
     record { budget = l .0; last = l .1; calm = h .1 }
 
-pub soon-parts : (q : Bool) (d : ℕ) (g : Listed) → passesSoon q d g ≡ true → (q ≡ true) × (shallow d g ≡ true)
+soon-by : (q a b : Bool) → pick (not q) false (pick a true b) ≡ true → (q ≡ true) × ((a ≡ true) ⊎ (b ≡ true))
+soon-by true true b e = (refl, inl refl)
+soon-by true false b e = (refl, inr e)
+soon-by false a b e = absurd (let z : _≡_ {A = ℕ} 0 1 = cc in omega arith)
+
+pub soon-parts : (q : Bool) (d : ℕ) (g : Listed) (t slots actions : List ℕ) → passesSoon q d g t slots actions ≡ true →
+    (q ≡ true) × ((shallow d g ≡ true) ⊎ (allNear t slots actions d ≡ true))
 unfolding passesSoon
-soon-parts q d g e = both-true q (shallow d g) e
+soon-parts q d g t slots actions e = soon-by q (shallow d g) (allNear t slots actions d) e
 
 pub late-parts : (q : Bool) (t slots values vars actions : List ℕ) → passesLate q t slots values vars actions ≡ true →
     (q ≡ true) × (allFit t slots values vars actions ≡ true)
 unfolding passesLate
-late-parts q t slots values vars actions e = both-true q (allFit t slots values vars actions) e
+late-parts q t slots values vars actions e = both-pass q (allFit t slots values vars actions) e
 
 -- a code put behind the schedule and taken back
 set-back : (cs : List ℕ) (j k : ℕ) → j < length cs → ZeroPast cs j → set (set cs j k) j 0 ≡ cs

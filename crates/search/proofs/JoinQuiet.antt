@@ -24,7 +24,7 @@ use Rattle.law.specs.Rules.{layoutOf}
 use Rattle.law.specs.Machines.{LabelsConf, triedBy}
 use Rattle.law.proofs.KeptFresh.{fresh-passes}
 use Rattle.law.proofs.KeptStep.{step-sound}
-use Rattle.quiet.proofs.Fitting.{fits-shallow, fits-all}
+use Rattle.quiet.proofs.Fitting.{fits-shallow, fits-near, fits-all}
 use Rattle.quiet.proofs.Plain.{plain-ahead}
 use Rattle.search.specs.Labels.{judgeOf, tryCode, labels}
 use Rattle.search.specs.Shown.{Arrays}
@@ -64,6 +64,8 @@ module _ (m : Model) (S : SoundModel m) (A : W.Arrays m) where
   quieting = record {
     soon = λ up d calm low b k.
         plain-ahead S A (at-sound up) calm (fits-shallow S A (at-sound up) d low b) (at (labels m) up .events) k;
+    near = λ up d calm low b k.
+        plain-ahead S A (at-sound up) calm (fits-near S A (at-sound up) d low b) (at (labels m) up .events) k;
     late = λ up calm fit k. plain-ahead S A (at-sound up) calm (fits-all S A (at-sound up) fit) (at (labels m) up .events) k;
   }
 

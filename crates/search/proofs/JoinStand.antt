@@ -17,7 +17,7 @@ use Rattle.rules.specs.declared.event.Happening.{Happening}
 use Rattle.rules.specs.declared.work.Labels.{Labels}
 use Rattle.machine.specs.Claim.{breaksClaim}
 use Rattle.machine.specs.Judge.{breaksOn, brokenBy}
-use Rattle.quiet.specs.Quiet.{allFit, calm, shallow, listedOf}
+use Rattle.quiet.specs.Quiet.{allFit, allNear, calm, shallow, listedOf}
 use Rattle.quiet.proofs.Bounds.{Bounds}
 use Rattle.walk.specs.Machine.{Machine}
 use Rattle.walk.specs.Trail.{plain, markOf}
@@ -52,10 +52,15 @@ calmAt m c = calm (c .control .frame .slots) (m .lengths) (c .control .count) (l
 abbrev pub fitAt : Model → LabelsConf → Bool
 fitAt m c = allFit (c .table) (c .control .frame .slots) (c .control .values) (c .control .vars) (m .actions)
 
--- what crate `quiet` gives: at a schedule whose configuration is calm all codes are plain, where its terms are shallow, or where its
--- next actions fit
+abbrev pub nearAt : Model → LabelsConf → ℕ → Bool
+nearAt m c d = allNear (c .table) (c .control .frame .slots) (m .actions) d
+
+-- what crate `quiet` gives: at a schedule whose configuration is calm all codes are plain, where its terms are shallow, or where the
+-- operands of its next actions are, or where those actions fit
 pub record Quiet (m : Model) : Type 0 where
   pub soon : (up : List ℕ) (d : ℕ) → calmAt m (at (labels m) up) ≡ true → shallow d (listedOf m) ≡ true →
+      Bounds d (at (labels m) up .table) (at (labels m) up .control .count) → (k : ℕ) → markOf (tryCode m (at (labels m) up) k) ≡ plain
+  pub near : (up : List ℕ) (d : ℕ) → calmAt m (at (labels m) up) ≡ true → nearAt m (at (labels m) up) d ≡ true →
       Bounds d (at (labels m) up .table) (at (labels m) up .control .count) → (k : ℕ) → markOf (tryCode m (at (labels m) up) k) ≡ plain
   pub late : (up : List ℕ) → calmAt m (at (labels m) up) ≡ true → fitAt m (at (labels m) up) ≡ true → (k : ℕ) →
       markOf (tryCode m (at (labels m) up) k) ≡ plain

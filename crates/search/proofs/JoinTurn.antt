@@ -16,7 +16,8 @@ use Rattle.rules.specs.declared.work.Worked.{Worked}
 use Rattle.rules.specs.declared.work.Worked.the-variants as W
 use Rattle.machine.specs.Judge.{brokenBy}
 use Rattle.search.specs.Place.{atCode, pushed}
-use Rattle.search.specs.Turn.{between, reached, closed, past, refusedBy, standsAt, foundOn, turned, still, entering, lent, Sheets, triedBy, triedWith, turnOn}
+use Rattle.search.specs.Turn.{between, reached, closed, past, refusedBy, standsAt, foundOn, turned, still, entering}
+use Rattle.search.specs.Turn.{lent, Sheets, triedBy, triedWith, turnOn}
 use Rattle.search.specs.declared.place.Place.{Place}
 use Rattle.search.specs.declared.answer.Kind.the-variants.{Stop, End}
 use Rattle.search.specs.declared.turn.Walk.{Walk}

@@ -22,6 +22,7 @@ use Rattle.walk.specs.Machine.{Machine}
 use Rattle.walk.specs.Place.{from, unbroken, fits}
 use Rattle.walk.specs.Array.{Spot, stackOf, settledIn}
 use Rattle.walk.specs.List.{listWalk, listIn}
+use Rattle.walk.proofs.Fit.{both-true}
 use Rattle.walk.proofs.Array.{length-stack}
 use Rattle.walk.proofs.List.{Settled, settle-twice}
 use Rattle.search.specs.Labels.{realCodes, labels}
@@ -39,7 +40,8 @@ use Rattle.search.proofs.Codes.{isNext, among-code, labels-coded}
 use Rattle.search.proofs.Along.{Sane}
 use Rattle.search.proofs.JoinPlace.{settle-is}
 use Rattle.search.proofs.JoinStand.{Judging, Quiet, there, stands-from}
-use Rattle.search.proofs.JoinWalk.{Inv, listOf, Shows, walk-join}
+use Rattle.search.proofs.JoinShows.{Inv, listOf, Shows}
+use Rattle.search.proofs.JoinWalk.{walk-join}
 use Rattle.search.proofs.JoinEnter.{deeps-long, Entry, Enters, enter-join, entry-parts, entry-tidied}
 
 -- a sound model's fresh configuration
@@ -88,10 +90,6 @@ bound-parts n e = go (eqb n 0) refl e
     go : (a : Bool) → eqb n 0 ≡ a → pick a false (leb n 24) ≡ true → (1 ≤ n) × (n ≤ 24)
     go true f h = absurd (let z : _≡_ {A = ℕ} 0 1 = cc in omega arith)
     go false f h = let d : n ≡ 0 → ⊥ = eqb-false n 0 f in (omega arith, leb-true n 24 h)
-
-both-true : (a b : Bool) → also a b ≡ true → (a ≡ true) × (b ≡ true)
-both-true true b e = (refl, e)
-both-true false b e = absurd (let z : _≡_ {A = ℕ} 0 1 = cc in omega arith)
 
 -- one listing beside another, field by field
 listing-path : {k k′ : Kind} {f f′ t t′ z z′ : ℕ} {p p′ : Place} {r r′ : List ℕ} → k ≡ k′ → f ≡ f′ → t ≡ t′ → z ≡ z′ → p ≡ p′ → r ≡ r′ →
@@ -158,8 +156,10 @@ module _ (m : Model) (long : length (m .lines) ≡ 512) (sound : soundModel m �
           settle-is m (e .out .place) (omega (arith, len-is, short)) (ap isNext next-is ∙ bounds-parts p n inside .1)
           ∙ ap₂ (λ (i k : ℕ). settledIn M cs i (from k realCodes)) len-is next-is
 
-      inv : Inv m start J Q n small b limit x
+      inv : Inv m start J n b x
       inv = record {
+        bound = small;
+        limit = limit;
         stands = rw (place-is, filled-is)
             (stands-from m start J (e .out .stack) (deepsOf (e .table) (e .out .stack)) (e .table)
             (there m start J cs (p .length) .control .count) (e .records) n cs (p .length) (p .next)
@@ -176,7 +176,7 @@ module _ (m : Model) (long : length (m .lines) ≡ 512) (sound : soundModel m �
         deeps = deeps-long (e .table) (e .out .stack) ∙ v .stack;
       }
 
-      list-is : listOf m start J Q n small b limit x ≡ listIn M n (roomFor room) b (tidied p)
+      list-is : listOf m n b x ≡ listIn M n (roomFor room) b (tidied p)
       unfolding listIn
       list-is =
           let z : roomFor room - 0 ≡ roomFor room = omega arith in
@@ -192,8 +192,8 @@ module _ (m : Model) (long : length (m .lines) ≡ 512) (sound : soundModel m �
       unfolding walkFrom walkOn firstWalk
       walked-is = entered-is ∙ rw (E .good ∙ good)
 
-      shown : Shows m start J Q n small b limit x y (listIn M n (roomFor room) b (tidied p))
-      shown = subst (Shows m start J Q n small b limit x y) list-is (walk-join m start J Q n small b limit (b + 1) x inv (omega arith))
+      shown : Shows b x y (listIn M n (roomFor room) b (tidied p))
+      shown = subst (Shows b x y) list-is (walk-join m start J Q n b (b + 1) x inv (omega arith))
 
       good-is : listingOn m n p b room ≡ listingShown room (listIn M n (roomFor room) b (tidied p))
       good-is =

@@ -1,5 +1,5 @@
 -- One turn of each loop: what is still to come, and what the end gives.
-use Prim.Native.Nat.{ℕ, zero, suc, _+_, _-_, _%_, _<_, _≤_}
+use Prim.Native.Nat.{ℕ, zero, suc, _+_, _-_, _<_, _≤_}
 use mathlib.Core.Bool.{Bool, true, false}
 use mathlib.Core.List.{List, _++_, append-nil, append-assoc}
 use mathlib.Core.Path.{_≡_, refl, sym, ap, subst, _∙_}
@@ -19,11 +19,11 @@ use Rattle.rules.specs.Made.{controlAfter}
 use Rattle.rules.specs.Step.{stepOn}
 use Rattle.rules.specs.declared.event.Happening.{Happening}
 use Rattle.quiet.specs.Quiet.{deepest}
-use Rattle.search.specs.Place.{atCode, levelOf, pushed, codePut, codeIn, popped, isDone, settleIn, settled}
+use Rattle.search.specs.Place.{atCode, levelOf, pushed, codeIn, popped, isDone, settleIn, settled}
 use Rattle.law.specs.Rules.{layoutOf}
 use Rattle.search.specs.Enter.{controlAt, Climb, Climbed, entered, enterStep, enterIn}
-use Rattle.search.specs.Turn.{standsAt, Lent, lent, Sheets, turnOn}
-use Rattle.search.specs.Search.{Scene, scene, sheetsOf, quietAt, passesSoon, passesLate, spentAll, pastLate, enteredBy, sceneAfter, deepAt}
+use Rattle.search.specs.Turn.{standsAt, Lent, turnOn}
+use Rattle.search.specs.Search.{Scene, scene, sheetsOf, quietAt, passesSoon, passesLate, spentAll, enteredBy, sceneAfter, deepAt}
 use Rattle.search.specs.Search.{turnedOn, walkIn, walkOn}
 use Rattle.search.specs.declared.place.Place.{Place}
 use Rattle.search.specs.declared.enter.Entered.{Entered}
@@ -31,18 +31,6 @@ use Rattle.search.specs.declared.turn.Walk.{Walk}
 use Rattle.search.specs.declared.turn.Turned.{Turned}
 use Rattle.search.specs.declared.turn.Task.{Task}
 use Rattle.search.proofs.Falls.{turnsLeft, turns-fall, turn-falls, turn-enters}
-
--- a level below 24 is the length itself
-pub level-is : (n : ℕ) → n < 24 → levelOf n ≡ n
-level-is n h = omega arith
-
-pub put-at : (cs : List ℕ) (i c : ℕ) → i < 24 → codePut cs i c ≡ set cs i (c % 256)
-unfolding codePut
-put-at cs i c h = rw (level-is i h)
-
-pub code-at : (cs : List ℕ) (i : ℕ) → i < 24 → codeIn cs i ≡ getD cs i 0
-unfolding codeIn
-code-at cs i h = rw (level-is i h)
 
 -- settled
 done-by : (b : Bool) (n : ℕ) → pick b false (ltb 0 n) ≡ true → 0 < n
@@ -109,56 +97,40 @@ module _ (codes space : List ℕ) (i : ℕ) where
   pub copy-end : length codes ≤ i → length space ≤ i + 1 → take i codes ++ drop (i + 1) space ≡ codes
   copy-end h g = rw (take-all i codes h, drop-of-length-le space g, append-nil)
 
--- a turn leaves fewer turns, and so does what is passed after it
-module _ (w : Walk) (r : Turned) (t₁ l₁ room₁ t l room : List ℕ) (s : Control) (g : Sheets) (k : Task)
-    (e : lent r t₁ l₁ room₁ ≡ turnOn t l room s w g k) (h : w .going ≡ true) where
-  pub turn-less : turnsLeft (r .walk) < turnsLeft w
-  turn-less = rw h (subst (λ (y : Lent Turned). turnsLeft (y .out .walk) < w .left + 1) (sym e) (turn-falls w t l room s g k))
-
-  pub enter-less : (v : Walk) → r .enters ≡ true → v .left ≤ r .walk .left → turnsLeft v < turnsLeft w
-  enter-less v i o =
-      let less : r .walk .left < w .left =
-      subst (λ (y : Lent Turned). y .out .enters ≡ true → y .out .walk .left < w .left) (sym e) (turn-enters w t l room s g k) i in
-      rw h (turns-fall v (w .left) (omega arith))
-
-pub spent-most : (w : Walk) → spentAll w .left ≤ w .left
+-- the walk: a turn leaves fewer turns
+spent-most : (w : Walk) → spentAll w .left ≤ w .left
 unfolding spentAll
 spent-most w = omega arith
 
-late-most : (b : Bool) (w : Walk) (q : Place) (count : ℕ) → pick b (spentAll w) (standsAt w (w .found) q count true) .left ≤ w .left
-late-most true w q count = spent-most w
-late-most false w q count = omega arith
-
-pub past-late-most : (w : Walk) (q : Place) (count : ℕ) (quiet : Bool) (t slots values vars actions : List ℕ)
-    → pastLate w q count quiet t slots values vars actions .left ≤ w .left
-unfolding pastLate
-past-late-most w q count quiet t slots values vars actions = late-most (passesLate quiet t slots values vars actions) w q count
-
--- the walk
 module _ (m : Model) (k : Task) where
-  left-by : (b : Bool) (y z : Scene) (n : ℕ) → y .walk .left ≤ n → z .walk .left ≤ n → pick b y z .walk .left ≤ n
-  left-by true y z n h g = h
-  left-by false y z n h g = g
+  left-by : (soon late : Bool) (x y z : Scene) (n : ℕ) → x .walk .left ≤ n → y .walk .left ≤ n → z .walk .left ≤ n
+      → pick soon x (pick late y z) .walk .left ≤ n
+  left-by true late x y z n f g h = f
+  left-by false true x y z n f g h = g
+  left-by false false x y z n f g h = h
 
-  module _ (quiet : Bool) (r : Lent Turned) (p : Place) (h : Happening) (c : Control) (d level : ℕ) (stack : List Control) (deeps : List ℕ) where
-    entered-left : enteredBy m k quiet r p h c d level stack deeps .walk .left ≤ r .out .walk .left
-    entered-left =
-        let w : Walk = r .out .walk in
-        let q : Place = pushed p (r .out .code) in
-        let n : ℕ = r .out .labels .count in
-        left-by
-        (passesSoon quiet d (k .listed))
-        (scene (spentAll w) stack deeps (r .table) (r .records) (r .room))
-        (scene
-        (pastLate w q n quiet (r .table) (c .frame .slots) (c .values) (c .vars) (m .actions))
-        (set stack (level + 1) c)
-        (set deeps (level + 1) d)
-        (r .table)
-        (recordPut (r .records) (p .length) (recordOf h))
-        (r .room))
-        (w .left)
-        (spent-most w)
-        (past-late-most w q n quiet (r .table) (c .frame .slots) (c .values) (c .vars) (m .actions))
+  entered-left : (quiet : Bool) (r : Lent Turned) (p : Place) (h : Happening) (c : Control) (d level : ℕ) (stack : List Control) (deeps : List ℕ)
+      → enteredBy m k quiet r p h c d level stack deeps .walk .left ≤ r .out .walk .left
+  entered-left quiet r p h c d level stack deeps =
+      let w : Walk = r .out .walk in
+      let kept : List Control = set stack (level + 1) c in
+      let deep : List ℕ = set deeps (level + 1) d in
+      left-by
+      (passesSoon quiet d (k .listed) (r .table) (c .frame .slots) (m .actions))
+      (passesLate quiet (r .table) (c .frame .slots) (c .values) (c .vars) (m .actions))
+      (scene (spentAll w) stack deeps (r .table) (r .records) (r .room))
+      (scene (spentAll w) kept deep (r .table) (r .records) (r .room))
+      (scene
+      (standsAt w (w .found) (pushed p (r .out .code)) (r .out .labels .count) true)
+      kept
+      deep
+      (r .table)
+      (recordPut (r .records) (p .length) (recordOf h))
+      (r .room))
+      (w .left)
+      (spent-most w)
+      (spent-most w)
+      (omega arith)
 
   falls-by : (b : Bool) (n : ℕ) (r : Turned) (y z : Scene) → r .enters ≡ b → turnsLeft (r .walk) < n + 1 → (r .enters ≡ true → r .walk .left < n)
       → y .walk .left ≤ r .walk .left → turnsLeft (z .walk) ≡ turnsLeft (r .walk) → turnsLeft (pick b y z .walk) < n + 1
@@ -201,7 +173,10 @@ module _ (m : Model) (k : Task) where
       (turn-falls (x .walk) (x .table) (x .records) (x .room) s (sheetsOf m) k)
       (turn-enters (x .walk) (x .table) (x .records) (x .room) s (sheetsOf m) k)
 
-  rests : (j : ℕ) (x : Scene) → x .walk .going ≡ false → walkIn j m k x ≡ x
+  pub turned-less : (x : Scene) → x .walk .going ≡ true → turnsLeft (turnedOn m k x .walk) < turnsLeft (x .walk)
+  turned-less x e = subst (λ (b : Bool). turnsLeft (turnedOn m k x .walk) < pick b (x .walk .left + 1) 0) (sym e) (turned-falls x)
+
+  pub rests : (j : ℕ) (x : Scene) → x .walk .going ≡ false → walkIn j m k x ≡ x
   unfolding walkIn
   rests zero x e = refl
   rests (suc j) x e = rw e

@@ -21,7 +21,7 @@ use Rattle.walk.specs.List.{Close, full, spent, done, Listed, withWords, withCo
 use Rattle.walk.proofs.Array.{Ok}
 use Rattle.walk.proofs.Gather.{Counted}
 use Rattle.walk.proofs.Loop.{Clean}
-use Rattle.walk.proofs.List.{list-ok, list-clean, list-short, never-full, all-same, all-on, lists-all, lists-enough, lists-part}
+use Rattle.walk.proofs.ListPasses.{list-ok, list-clean, list-short, never-full, all-same, all-on, lists-all, lists-enough, lists-part}
 use Rattle.search.specs.Labels.{labels}
 use Rattle.search.specs.Place.{startPlace}
 use Rattle.search.specs.Answer.{refusedListing, roomFor}
@@ -89,7 +89,7 @@ module _ (m : Model) (arrays : Arrays m) (sound : soundModel m ≡ true) (n : �
     clean : Clean (tidied p)
     clean i h = padded-zero (take (p .length) (p .codes)) i (omega (arith, take-long))
 
-    place-is : listingOn m n p b room .out .place ≡ placeAt (l .place)
+    pub place-is : listingOn m n p b room .out .place ≡ placeAt (l .place)
     place-is = ap (λ (r : Held Listing). r .out .place) listing-shows
 
     place-ok : Ok M n 24 (l .place)

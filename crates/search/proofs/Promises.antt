@@ -10,7 +10,6 @@ use native.Mathlib.Omega.{arith}
 use lib.ListN.{length, length-replicate}
 use borrow.Author.Tests.{lt-ltb}
 use Rattle.model.specs.declared.records.Model.{Model}
-use Rattle.state.specs.Code.{isCode}
 use Rattle.state.specs.Control.{upFrom}
 use Rattle.state.specs.Seek.{sightOf}
 use Rattle.state.proofs.Codes.{one-iff}
@@ -41,7 +40,7 @@ use Rattle.search.specs.Place.{startPlace}
 use Rattle.search.specs.Search.{boundFits}
 use Rattle.search.specs.Shown.{callOn, placeSeen, GoodPlace, GoodBudget, Arrays}
 use Rattle.search.specs.declared.place.Place.{Place}
-use Rattle.search.proofs.Codes.{code-mem, labels-coded}
+use Rattle.search.proofs.Codes.{not-code, labels-coded}
 use Rattle.search.proofs.Blind.{claim-blind}
 use Rattle.search.proofs.Joined.{bound-parts}
 use Rattle.search.proofs.Searched.{answers}
@@ -54,13 +53,6 @@ follows-rules m arrays sound =
     record { codes = refl; starts = F .starts; steps = λ c d k h. F .steps c d k h }
 
 -- the rules' machine has the same codes, and refuses what is none
-not-code : (k : ℕ) → ¬ List·Memᴰ k realCodes → isCode k ≡ false
-not-code k f = go (isCode k) refl
-  where
-    go : (b : Bool) → isCode k ≡ b → b ≡ false
-    go true e = absurd (f (code-mem k e))
-    go false e = refl
-
 pub rules-coded : (lim : Bool) (m : Model) → Coded (rules lim (judgeOf m) realCodes m)
 unfolding stepR
 rules-coded lim m = record {

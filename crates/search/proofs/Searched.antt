@@ -4,7 +4,7 @@ use mathlib.Core.Bool.{true, false}
 use mathlib.Core.List.{List, [], _∷_, _++_, append-nil}
 use mathlib.Core.Path.{_≡_, refl, sym, ap, _∙_, subst}
 use native.Mathlib.Omega.{arith}
-use lib.ListN.{length, take, drop, replicate, length-append, length-replicate, drop-of-length-le, List·getD-append}
+use lib.ListN.{length, take, drop, replicate, length-replicate, drop-of-length-le, List·getD-append}
 use lib.Seq.{sets-eq, length-take-le, take-at, getD-take}
 use Rattle.terms.specs.Base.{held}
 use Rattle.model.specs.declared.records.Model.{Model}
@@ -20,14 +20,17 @@ use Rattle.walk.specs.Array.{Spot, stackOf, view, searchIn}
 use Rattle.walk.specs.List.{Listed, listIn, asOne}
 use Rattle.walk.proofs.Fit.{fits-parts}
 use Rattle.walk.proofs.Array.{length-stack, Ok, program}
-use Rattle.walk.proofs.List.{list-one, found-short}
+use Rattle.walk.proofs.List.{list-one}
+use Rattle.walk.proofs.ListPasses.{found-short}
 use Rattle.search.specs.Labels.{labels}
 use Rattle.search.specs.Answer.{refusedListing, roomFor, answerOf}
 use Rattle.search.specs.Search.{boundFits, listingOn, searchOn}
-use Rattle.search.specs.Shown.{placeAt, padded, tidied, fitsOn, wordPut, wordsPut, listingShown, answerBy, answerShown, refusedAnswer, replyOf, callOn, placeSeen, GoodPlace, GoodBudget, Arrays}
+use Rattle.search.specs.Shown.{placeAt, padded, tidied, fitsOn, wordPut, wordsPut, listingShown, answerBy, answerShown, refusedAnswer, replyOf}
+use Rattle.search.specs.Shown.{callOn, placeSeen, GoodPlace, GoodBudget, Arrays}
 use Rattle.search.specs.declared.place.Place.{Place}
 use Rattle.search.specs.declared.answer.Answer.{Answer}
 use Rattle.search.proofs.Codes.{labels-coded}
+use Rattle.search.proofs.InRoom.{padded-long}
 use Rattle.search.proofs.JoinEnter.{stack-same}
 use Rattle.search.proofs.JoinJudge.{judging}
 use Rattle.search.proofs.JoinQuiet.{quiet-along}
@@ -48,10 +51,6 @@ unfolding searchOn listingOn
 search-unbounded m n p b e f = rw (e, f) (refused-one 41)
 
 -- The room for one
-
-padded-long : (w : List ℕ) → length w ≤ 24 → length (padded w) ≡ 24
-unfolding padded
-padded-long w h = length-append w (replicate (24 - length w) 0) ∙ rw (length-replicate {A = ℕ} (24 - length w) 0) (omega arith)
 
 one-long : length {A = ℕ} (replicate 25 0) ≡ 25
 one-long = length-replicate {A = ℕ} 25 0

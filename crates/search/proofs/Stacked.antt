@@ -4,12 +4,13 @@ use mathlib.Core.List.{List, [], _∷_, _++_, map, append-nil, append-assoc}
 use mathlib.Core.Path.{_≡_, refl, sym, ap, _∙_}
 use native.Mathlib.Nat.{not-suc-le-zero, le-of-suc-le-suc}
 use native.Mathlib.Omega.{arith}
-use lib.ListN.{length, getD, take, drop, set, drop-of-length-le, length-map}
+use lib.ListN.{length, getD, take, drop, set, drop-of-length-le, length-set, length-map}
 use lib.Seq.{drop-cons, take-suc-set, take-all}
 use Rattle.state.specs.declared.control.Control.{Control}
 use Rattle.quiet.specs.Quiet.{deepest}
-use Rattle.search.specs.Rows.{controlFrom, noCounts, slotRows, lockRows, valueRows, varRows, countRows}
+use Rattle.search.specs.Rows.{controlFrom, noCounts, countsFrom, countsOn, slotRows, lockRows, valueRows, varRows, countRows}
 use Rattle.search.specs.Enter.{noControl}
+use Rattle.search.specs.Ahead.{Rows}
 use Rattle.search.specs.Search.{deepsOf}
 use Rattle.search.specs.declared.rows.Counts.{Counts}
 
@@ -17,24 +18,48 @@ use Rattle.search.specs.declared.rows.Counts.{Counts}
 pub length-stack : {X Y : Type 0} (f : X → Y) (l : List X) (n : ℕ) → length (map f l) ≡ n → length l ≡ n
 length-stack f l n h = sym (length-map l f) ∙ h
 
--- what is put already, and what is still to come
-module _ {A B : Type 0} (f : A → B) (d : A) (stack : List A) (rows : List B) (i : ℕ) where
-  pub rows-more : i < length rows → i < length stack
-      → take i rows ++ map f (drop i stack) ≡ take (i + 1) (set rows i (f (getD stack i d))) ++ map f (drop (i + 1) stack)
-  rows-more h g =
-      let a : i + 1 ≡ suc i = omega arith in
-      rw (drop-cons stack i d g, a, take-suc-set rows i (f (getD stack i d)) h, append-assoc)
+-- what the loops that spread them keep, over the part f of a configuration: rows that are put already, and those still to come
+module _ {A B : Type 0} (f : A → B) (stack : List A) where
+  abbrev pub Spread : List B → ℕ → Type 0
+  Spread rows i = (map f stack ≡ take i rows ++ map f (drop i stack)) × (length rows ≡ 25) × (length stack ≡ 25) × (i ≤ 25)
 
-  pub rows-end : length rows ≤ i → length stack ≤ i → take i rows ++ map f (drop i stack) ≡ rows
-  rows-end h g = rw (take-all i rows h, drop-of-length-le stack g, append-nil)
+  pub spread-next : (d : A) (rows : List B) (i : ℕ) → Spread rows i → i < 25 → Spread (set rows i (f (getD stack i d))) (i + 1)
+  spread-next d rows i (e, h, g, l) k =
+      let a : i + 1 ≡ suc i = omega arith in (
+        rw (e, drop-cons stack i d (omega arith), a, take-suc-set rows i (f (getD stack i d)) (omega arith), append-assoc),
+        length-set rows i (f (getD stack i d)) ∙ h,
+        g,
+        omega arith,
+      )
+
+  pub spread-all : (rows : List B) (i : ℕ) → Spread rows i → 25 ≤ i → rows ≡ map f stack
+  spread-all rows i (e, h, g, l) k = sym (rw (e, take-all i rows (omega arith), drop-of-length-le stack {i = i} (omega arith), append-nil))
+
+-- the counters in rows of five numbers
+pub counts-long : (rows : List (List ℕ)) → length (countsOn rows) ≡ length rows
+unfolding countsOn
+counts-long rows = length-map rows (λ (row : List ℕ). countsFrom row)
+
+pub counts-get : (i : ℕ) (rows : List (List ℕ)) → getD (countsOn rows) i noCounts ≡ countsFrom (getD rows i [])
+unfolding countsOn countsFrom
+counts-get i [] = refl
+counts-get zero (row ∷ rows) = refl
+counts-get (suc i) (row ∷ rows) = counts-get i rows
+
+pub counts-put : (row : List ℕ) (c : Counts) → countsFrom row ≡ c → (i : ℕ) (rows : List (List ℕ))
+    → countsOn (set rows i row) ≡ set (countsOn rows) i c
+unfolding countsOn
+counts-put row c e i [] = refl
+counts-put row c e zero (r ∷ rows) = rw e
+counts-put row c e (suc i) (r ∷ rows) = ap (λ (cs : List Counts). countsFrom r ∷ cs) (counts-put row c e i rows)
 
 -- there are 25 of each
-pub record Long (ss ls vs xs : List (List ℕ)) (cs : List Counts) : Type 0 where
-  pub slots : length ss ≡ 25
-  pub locks : length ls ≡ 25
-  pub values : length vs ≡ 25
-  pub vars : length xs ≡ 25
-  pub counts : length cs ≡ 25
+pub record Long (x : Rows) : Type 0 where
+  pub slots : length (x .slots) ≡ 25
+  pub locks : length (x .others .locks) ≡ 25
+  pub values : length (x .others .values) ≡ 25
+  pub vars : length (x .others .vars) ≡ 25
+  pub counts : length (x .others .counts) ≡ 25
 
 -- the configurations that five lists of rows make up
 unfoldable pub stacked : List (List ℕ) → List (List ℕ) → List (List ℕ) → List (List ℕ) → List Counts → List Control
@@ -74,6 +99,9 @@ module _ (s l v x : List ℕ) (c : Counts) where
   stacked-set zero (p ∷ ss) [] vs xs cs = refl
   stacked-set (suc i) (p ∷ ss) [] vs xs cs = refl
   stacked-set i [] ls vs xs cs = refl
+
+abbrev pub stackOf : Rows → List Control
+stackOf x = stacked (x .slots) (x .others .locks) (x .others .values) (x .others .vars) (x .others .counts)
 
 -- the depths of their deepest terms
 unfoldable pub depths : List Counts → List ℕ

@@ -1,5 +1,5 @@
 -- Labels: the machine that the search walks through. Place to Search: what the contracts of this crate cite, beside document 01,
--- section 'The search', in the code's own order. Shown: what the walk of crate `walk` gives, as answers of this crate.
+-- section 'The search', in the code's own order; Ahead: the same over rows. Shown: what the walk of crate `walk` gives, as answers of this crate.
 pub mod Labels
 pub mod Place
 pub mod Answer
@@ -7,4 +7,5 @@ pub mod Rows
 pub mod Enter
 pub mod Turn
 pub mod Search
+pub mod Ahead
 pub mod Shown

@@ -1,18 +1,12 @@
 -- A configuration that stands in a row: its four arrays, and its counters.
-use Prim.Native.Nat.{ℕ}
+use Prim.Native.Nat.{ℕ, _%_}
 use mathlib.Core.List.{List, map}
+use lib.ListN.{getD}
 use Rattle.state.specs.declared.control.Control.{Control}
+use Rattle.rules.specs.Parts.{rest, controlWith}
 use Rattle.rules.specs.declared.made.Counters.{Counters}
 use Rattle.quiet.specs.Quiet.{deepest}
 use Rattle.search.specs.declared.rows.Counts.{Counts}
-
-abbrev pub controlFrom : List ℕ → List ℕ → List ℕ → List ℕ → Counts → Control
-controlFrom slots locks values vars c = record {
-  frame = record { slots = slots; locks = locks; steps = c .steps; serial = c .serial; nonce = c .nonce };
-  values = values;
-  vars = vars;
-  count = c .count;
-}
 
 abbrev pub counts : ℕ → ℕ → ℕ → ℕ → ℕ → Counts
 counts steps serial nonce count deep = record { steps = steps; serial = serial; nonce = nonce; count = count; deep = deep }
@@ -20,11 +14,21 @@ counts steps serial nonce count deep = record { steps = steps; serial = serial; 
 abbrev pub noCounts : Counts
 noCounts = counts 0 0 0 0 0
 
+-- in a row of five numbers, and in rows of them
+unfoldable pub countsFrom : List ℕ → Counts
+countsFrom row = counts (getD row 0 0) (getD row 1 0) (getD row 2 0) (getD row 3 0) (getD row 4 0 % 256)
+
+unfoldable pub countsOn : List (List ℕ) → List Counts
+countsOn rows = map (λ (row : List ℕ). countsFrom row) rows
+
 abbrev pub countsIn : List ℕ → ℕ → ℕ → ℕ → ℕ → Counts
 countsIn t steps serial nonce n = counts steps serial nonce n (deepest t 0 0 n)
 
 abbrev pub countersOf : Counts → Counters
 countersOf c = record { steps = c .steps; serial = c .serial; nonce = c .nonce }
+
+abbrev pub controlFrom : List ℕ → List ℕ → List ℕ → List ℕ → Counts → Control
+controlFrom slots locks values vars c = controlWith slots (rest (countersOf c) locks values vars) (c .count)
 
 abbrev pub countsOf : Counters → ℕ → ℕ → Counts
 countsOf c n deep = counts (c .steps) (c .serial) (c .nonce) n deep

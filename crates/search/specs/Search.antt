@@ -13,7 +13,7 @@ use Rattle.rules.specs.Happened.{happenedOn}
 use Rattle.rules.specs.Made.{controlAfter}
 use Rattle.rules.specs.declared.event.Happening.{Happening}
 use Rattle.audit.specs.Models.{soundModel}
-use Rattle.quiet.specs.Quiet.{deepest, allFit, calm, shallow, listedOf}
+use Rattle.quiet.specs.Quiet.{deepest, allFit, allNear, calm, shallow, listedOf}
 use Rattle.quiet.specs.declared.quiet.Listed.{Listed}
 use Rattle.search.specs.Place.{levelOf, pushed, settled}
 use Rattle.search.specs.Answer.{listed, refusedListing, roomFor, answerOf}
@@ -53,9 +53,9 @@ atLast left n bound = pick (ltb left 160) false (leb bound (n + 2))
 unfoldable pub quietAt : ℕ → ℕ → Task → List ℕ → List ℕ → ℕ → Bool
 quietAt left n k slots lengths count = pick (atLast left n (k .bound)) (calm slots lengths count (k .listed)) false
 
--- its codes are all plain, by the depths of its terms, or by the operands of its next actions
-unfoldable pub passesSoon : Bool → ℕ → Listed → Bool
-passesSoon quiet deep g = pick quiet (shallow deep g) false
+-- its codes are all plain, by the depths of its terms, or of the operands of its next actions, or by what those come to
+unfoldable pub passesSoon : Bool → ℕ → Listed → List ℕ → List ℕ → List ℕ → Bool
+passesSoon quiet deep g t slots actions = pick (not quiet) false (pick (shallow deep g) true (allNear t slots actions deep))
 
 unfoldable pub passesLate : Bool → List ℕ → List ℕ → List ℕ → List ℕ → List ℕ → Bool
 passesLate quiet t slots values vars actions = pick quiet (allFit t slots values vars actions) false
@@ -64,23 +64,32 @@ passesLate quiet t slots values vars actions = pick quiet (allFit t slots values
 unfoldable pub spentAll : Walk → Walk
 spentAll w = walk (w .place) (w .left - 160) (w .sized) (w .found) (w .filled) true End
 
--- the walk at the longer schedule q, or past it where all its codes are plain
-unfoldable pub pastLate : Walk → Place → ℕ → Bool → List ℕ → List ℕ → List ℕ → List ℕ → List ℕ → Walk
-pastLate w q count quiet t slots values vars actions =
-    pick (passesLate quiet t slots values vars actions) (spentAll w) (standsAt w (w .found) q count true)
-
--- the schedule q with configuration c, deepest term d and last event h is entered from the one at a level; its 160 codes are
--- passed at once where they are all plain
-abbrev pub enteredBy : Model → Task → Bool → Lent Turned → Place → Happening → Control → ℕ → ℕ → List Control → List ℕ → Scene
-enteredBy m k quiet r p h c d level stack deeps =
-    pick (passesSoon quiet d (k .listed)) (scene (spentAll (r .out .walk)) stack deeps (r .table) (r .records) (r .room))
+-- the schedule that is one longer, its configuration kept on the stack: its 160 codes are passed at once where they are all
+-- plain; else the walk stands at it, and its last event h is recorded
+abbrev pub enteredLate : Bool → Lent Turned → Place → Happening → List Control → List ℕ → Scene
+enteredLate late r p h stack deeps =
+    pick late (scene (spentAll (r .out .walk)) stack deeps (r .table) (r .records) (r .room))
     (scene
-    (pastLate (r .out .walk) (pushed p (r .out .code)) (r .out .labels .count) quiet (r .table) (c .frame .slots) (c .values) (c .vars) (m .actions))
-    (set stack (level + 1) c)
-    (set deeps (level + 1) d)
+    (standsAt (r .out .walk) (r .out .walk .found) (pushed p (r .out .code)) (r .out .labels .count) true)
+    stack
+    deeps
     (r .table)
     (recordPut (r .records) (p .length) (recordOf h))
     (r .room))
+
+-- the schedule with configuration c, deepest term d and last event h is entered from the one at a level; its codes are passed
+-- without keeping c where that is plain from its slots and depths alone
+abbrev pub enteredBy : Model → Task → Bool → Lent Turned → Place → Happening → Control → ℕ → ℕ → List Control → List ℕ → Scene
+enteredBy m k quiet r p h c d level stack deeps =
+    pick (passesSoon quiet d (k .listed) (r .table) (c .frame .slots) (m .actions))
+    (scene (spentAll (r .out .walk)) stack deeps (r .table) (r .records) (r .room))
+    (enteredLate
+    (passesLate quiet (r .table) (c .frame .slots) (c .values) (c .vars) (m .actions))
+    r
+    p
+    h
+    (set stack (level + 1) c)
+    (set deeps (level + 1) d))
 
 abbrev pub enteredFrom : Model → Task → Lent Turned → Place → Happening → Control → ℕ → ℕ → List Control → List ℕ → Scene
 enteredFrom m k r p h c d level stack deeps =

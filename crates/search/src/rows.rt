@@ -1,12 +1,11 @@
 // A configuration in a row: beside its slots, locks, values and variables, its counters. And the tests by which all codes
 // of a schedule are passed at once.
 use crate::answer::Kind;
-use crate::place::Place;
 use crate::turn::Task;
 use crate::turn::Walk;
 use crate::turn::less;
-use crate::turn::stands_at;
 use quiet::depths::all_fit;
+use quiet::depths::all_near;
 use quiet::depths::deepest;
 use quiet::quiet::Listed;
 use quiet::quiet::calm;
@@ -15,8 +14,8 @@ use rules::made::Counters;
 use state::code::Code;
 use state::control::Control;
 ghost use mathlib.Core.Path.{_≡_};
-ghost use Rattle.search.specs.Rows.{noCounts, countsIn, countersOf, countsOf, slotRows, lockRows, valueRows, varRows, countRows};
-ghost use Rattle.search.specs.Search.{atLast, quietAt, passesSoon, passesLate, spentAll, pastLate};
+ghost use Rattle.search.specs.Rows.{countsFrom, countsOn, countsIn, countersOf, countsOf, slotRows, lockRows, valueRows, varRows, countRows};
+ghost use Rattle.search.specs.Search.{atLast, quietAt, passesSoon, passesLate, spentAll};
 
 // Steps made, next serial, next nonce, terms in the table, and the depth of the deepest of them.
 pub struct Counts {
@@ -27,16 +26,23 @@ pub struct Counts {
     pub deep: u8,
 }
 
-fn no_counts() -> Counts
-    ensures { λ r. ⌜ r ≡ noCounts ⌝ }
+// The counters in a row of five numbers, and such a row.
+pub fn counts_at(row: &[u16; 5]) -> Counts
+    ensures { λ r. ⌜ r ≡ countsFrom (now (row .entry)) ⌝ }
 {
     Counts {
-        steps: 0,
-        serial: 0,
-        nonce: 0,
-        count: 0,
-        deep: 0,
+        steps: row[0],
+        serial: row[1],
+        nonce: row[2],
+        count: row[3],
+        deep: (row[4] % 256) as u8,
     }
+}
+
+pub fn counts_row(c: Counts) -> [u16; 5]
+    ensures { λ r. ⌜ countsFrom r ≡ c ⌝ }
+{
+    [c.steps, c.serial, c.nonce, c.count, c.deep as u16]
 }
 
 // The counters of a configuration whose terms stand in the table.
@@ -134,15 +140,15 @@ pub fn var_rows(stack: [Control; 25]) -> [[u16; 192]; 25]
     rows
 }
 
-pub fn count_rows(t: &[u64; 512], stack: [Control; 25]) -> [Counts; 25]
-    ensures { λ r. ⌜ r ≡ countRows (now (t .entry)) stack ⌝ }
+pub fn count_rows(t: &[u64; 512], stack: [Control; 25]) -> [[u16; 5]; 25]
+    ensures { λ r. ⌜ countsOn r ≡ countRows (now (t .entry)) stack ⌝ }
 {
-    let mut rows = [no_counts(); 25];
+    let mut rows = [[0u16; 5]; 25];
     let mut i = 0;
     while i < 25 {
         let s = stack[i];
         let f = s.frame;
-        rows[i] = counts_in(t, f.steps, f.serial, f.nonce, s.count);
+        rows[i] = counts_row(counts_in(t, f.steps, f.serial, f.nonce, s.count));
         i += 1;
     }
     rows
@@ -176,15 +182,28 @@ pub fn quiet_at<'a>(
     }
 }
 
-// All codes are plain, by the depths of its terms.
-pub fn passes_soon(quiet: bool, deep: u8, listed: Listed) -> bool
-    ensures { λ r. ⌜ r ≡ passesSoon quiet deep listed ⌝ }
+// All codes are plain, by the depths of its terms, or of the operands of its next actions.
+pub fn passes_soon<'a>(
+    quiet: bool,
+    deep: u8,
+    listed: Listed,
+    t: &'a [u64; 512],
+    slots: &'a [u64; 12],
+    actions: &'a [u64; 512],
+) -> bool
+    ensures { λ r. ⌜ r ≡ passesSoon quiet deep listed (now (t .entry)) (now (slots .entry)) (now (actions .entry)) ⌝ }
 {
-    if quiet { shallow(deep, listed) } else { false }
+    if !quiet {
+        return false;
+    }
+    if shallow(deep, listed) {
+        return true;
+    }
+    all_near(t, slots, actions, deep)
 }
 
-// The same, by the operands of its next actions.
-fn passes_late<'a>(
+// The same, by what the operands of its next actions come to.
+pub fn passes_late<'a>(
     quiet: bool,
     t: &'a [u64; 512],
     slots: &'a [u64; 12],
@@ -198,27 +217,6 @@ fn passes_late<'a>(
         all_fit(t, slots, values, vars, actions)
     } else {
         false
-    }
-}
-
-// The walk at the longer schedule, or past it where all its codes are plain.
-pub fn past_late<'a>(
-    w: Walk,
-    q: Place,
-    count: u16,
-    quiet: bool,
-    t: &'a [u64; 512],
-    slots: &'a [u64; 12],
-    values: &'a [u16; 32],
-    vars: &'a [u16; 192],
-    actions: &'a [u64; 512],
-) -> Walk
-    ensures { λ r. ⌜ r ≡ pastLate w q count quiet (now (t .entry)) (now (slots .entry)) (now (values .entry)) (now (vars .entry)) (now (actions .entry)) ⌝ }
-{
-    if passes_late(quiet, t, slots, values, vars, actions) {
-        spent_all(w)
-    } else {
-        stands_at(w, w.found, q, count, true)
     }
 }
 

@@ -1,5 +1,6 @@
 // The search from a place, within a budget: the first bad schedule, or as many as lent room takes. The model is checked
 // and the place entered once a call; from there on nothing is replayed.
+use crate::ahead::advance;
 use crate::answer::Answer;
 use crate::answer::Kind;
 use crate::answer::Listing;
@@ -10,31 +11,18 @@ use crate::enter::enter;
 use crate::enter::in_bounds;
 use crate::place::Place;
 use crate::place::level_of;
-use crate::place::pushed;
 use crate::place::settled;
 use crate::rows::count_rows;
-use crate::rows::counters_of;
-use crate::rows::counts_of;
 use crate::rows::lock_rows;
-use crate::rows::passes_soon;
-use crate::rows::past_late;
-use crate::rows::quiet_at;
 use crate::rows::slot_rows;
-use crate::rows::spent_all;
 use crate::rows::value_rows;
 use crate::rows::var_rows;
 use crate::turn::Task;
 use crate::turn::Walk;
-use crate::turn::turn;
 use audit::models::sound_model;
 use model::records::Model;
 use quiet::depths::deepest;
 use quiet::quiet::Listed;
-use rules::event::record_of;
-use rules::event::write_record;
-use rules::happened::happened;
-use rules::made::rest_made;
-use rules::made::slots_made;
 ghost use mathlib.Core.Path.{_≡_};
 ghost use Prim.Native.Nat.{_-_};
 ghost use lib.ListN.{drop};
@@ -159,9 +147,7 @@ fn first_walk(e: Entered, budget: u32, going: bool) -> Walk
     }
 }
 
-// The configurations of all shorter schedules stand in rows. A step is made in place, in the row after: nothing is copied
-// but the row that it starts from. Where the codes of a longer schedule are all plain and nothing is entered from it, they
-// are passed at once.
+// The configurations of all shorter schedules stand in rows, which each turn is lent.
 fn walk(
     t: &mut [u64; 512],
     records: &mut [u16],
@@ -181,75 +167,22 @@ fn walk(
     let mut counts = count_rows(t, stack);
     let mut w = first_walk(e, budget, 0 < room_for(room));
     while w.going {
-        let p = w.place;
-        let level = level_of(p.length);
-        let c = counts[level];
-        let r = turn(
+        w = advance(
             t,
             records,
             room,
-            &slots[level],
-            &locks[level],
-            &values[level],
-            &vars[level],
-            c,
+            &mut slots,
+            &mut locks,
+            &mut values,
+            &mut vars,
+            &mut counts,
             w,
             &m.actions,
             &m.lengths,
             &m.locations,
+            &m.machines,
             k,
         );
-        w = r.walk;
-        if r.enters {
-            let l = r.labels;
-            let deep = deepest(t, c.deep, c.count, l.count);
-            let mut after = slots[level];
-            slots_made(
-                &mut after,
-                &m.actions,
-                &m.lengths,
-                &m.machines,
-                c.serial,
-                r.code,
-                l.program,
-            );
-            let quiet = quiet_at(w.left, p.length, k, &after, &m.lengths, l.count);
-            if passes_soon(quiet, deep, k.listed) {
-                w = spent_all(w);
-            } else {
-                let h = happened(&slots[level], c.serial, &m.actions, &m.lengths, r.code, l);
-                write_record(records, p.length as u16, record_of(h));
-                slots[level + 1] = after;
-                locks[level + 1] = locks[level];
-                values[level + 1] = values[level];
-                vars[level + 1] = vars[level];
-                let n = rest_made(
-                    &slots[level],
-                    &mut locks[level + 1],
-                    &mut values[level + 1],
-                    &mut vars[level + 1],
-                    counters_of(c),
-                    &m.actions,
-                    &m.lengths,
-                    &m.locations,
-                    &m.machines,
-                    r.code,
-                    l,
-                );
-                counts[level + 1] = counts_of(n, l.count, deep);
-                w = past_late(
-                    w,
-                    pushed(p, r.code),
-                    l.count,
-                    quiet,
-                    t,
-                    &after,
-                    &values[level + 1],
-                    &vars[level + 1],
-                    &m.actions,
-                );
-            }
-        }
     }
     w
 }

@@ -20,7 +20,7 @@ use state::code::Code;
 use state::code::code_after;
 use state::code::code_from;
 use state::code::codes_below;
-use state::seek::seek_lent;
+use state::seek::seek;
 use terms::table::cut;
 ghost use mathlib.Core.Path.{_≡_};
 ghost use Prim.Native.Nat.{_-_};
@@ -78,7 +78,7 @@ pub fn turn<'a, 'b>(
     if Code::NONE <= p.next {
         return still(closed(w, p, 0, Kind::End));
     }
-    let code = seek_lent(
+    let code = seek(
         slots,
         locks,
         c.steps,

@@ -2,19 +2,18 @@
 -- exactly to what is no code.
 use Prim.Native.Nat.{ℕ, _+_, _-_, _<_, _≤_}
 use mathlib.Core.Bool.{Bool, true, false}
-use mathlib.Core.List.{List, [], _∷_}
 use mathlib.Core.Logic.{_↔_}
-use mathlib.Core.Path.{_≡_, refl, sym, ap, _∙_}
+use mathlib.Core.Path.{_≡_, refl, _∙_}
 use native.Mathlib.Omega.{arith}
 use lib.Dec.{ltb}
 use borrow.Author.Tests.{ltb-true, ltb-false, lt-ltb, le-ltb}
-use Rattle.terms.specs.Base.{pick}
 use Rattle.state.specs.Code.{wayOf, isCode, codesBelow, codeFrom, codeAfter}
 use Rattle.state.specs.Reason.{FirstIs, here, later}
 use Rattle.state.specs.Early.{Sight, reasons, notCode, refusalOf, earlyOf}
 use Rattle.state.specs.declared.code.Way.{Way}
-use Rattle.state.specs.declared.code.Way.the-variants.{Nothing, Advance, Hand, Reset}
+use Rattle.state.specs.declared.code.Way.the-variants.{Nothing}
 use Rattle.state.proofs.Turned.{early-iff}
+use Rattle.state.proofs.Threads.{never}
 
 -- Where a number stands: below 12, from 12 to 15, from 16 to 163, past all codes
 
@@ -54,10 +53,6 @@ module _ (c : ℕ) where
   unfolding codesBelow
   below-low h = rw (lt-ltb c 12 h)
 
-  below-gap : 12 ≤ c → c < 16 → codesBelow c ≡ 12
-  unfolding codesBelow
-  below-gap h k = rw (le-ltb c 12 h, lt-ltb c 16 k)
-
   below-high : 16 ≤ c → c < 164 → codesBelow c ≡ c - 4
   unfolding codesBelow
   below-high h k = rw (le-ltb c 12 (omega arith), le-ltb c 16 h, lt-ltb c 164 k)
@@ -94,29 +89,7 @@ module _ (c : ℕ) where
   unfolding codeAfter
   after-over h = rw (le-ltb c 11 (omega arith), le-ltb c 16 (omega arith), le-ltb c 163 h)
 
-clash : (p : Bool) → p ≡ true → p ≡ false → ⊥
-clash p x y = let z : _≡_ {A = ℕ} 0 1 = cc in omega arith
-
--- the code that has as many below it as a code has is that code
-from-spot : (c : ℕ) → Spot c → isCode c ≡ true → codeFrom (codesBelow c) ≡ c
-from-spot c (low h) e = rw (below-low c h) (from-low c h)
-from-spot c (gap h k) e = absurd (clash (isCode c) e (code-gap c h k))
-from-spot c (high h k) e = rw (below-high c h k) (from-high (c - 4) (omega arith) (omega arith) ∙ omega arith)
-from-spot c (over h) e = absurd (clash (isCode c) e (code-over c h))
-
-pub code-from-below : (c : ℕ) → isCode c ≡ true → codeFrom (codesBelow c) ≡ c
-code-from-below c e = from-spot c (spot c) e
-
--- what is no code leads to the next one
-none-spot : (c : ℕ) → Spot c → isCode c ≡ false → codeFrom (codesBelow c) ≡ codeAfter c
-none-spot c (low h) e = absurd (clash (isCode c) (code-low c h) e)
-none-spot c (gap h k) e = rw (below-gap c h k, after-gap c (omega arith) k) (from-high 12 (omega arith) (omega arith))
-none-spot c (high h k) e = absurd (clash (isCode c) (code-high c h k) e)
-none-spot c (over h) e = rw (below-over c h, after-over c (omega arith)) (from-over 160 (omega arith))
-
-pub none-from-below : (c : ℕ) → isCode c ≡ false → codeFrom (codesBelow c) ≡ codeAfter c
-none-from-below c e = none-spot c (spot c) e
-
+-- as many codes stand below the n-th code as its number says
 pub below-from : (n : ℕ) → n ≤ 160 → codesBelow (codeFrom n) ≡ n
 below-from n h = below-by (ltb n 12) (ltb n 160) n h refl refl
   where
@@ -141,7 +114,7 @@ after-spot c (low h) e = after-by (ltb c 11) c h refl
     after-by false c h x =
         let k : 11 ≤ c = ltb-false c 11 x in
         rw (after-gap c k (omega arith), below-low c h) (below-high 16 (omega arith) (omega arith) ∙ omega arith)
-after-spot c (gap h k) e = absurd (clash (isCode c) e (code-gap c h k))
+after-spot c (gap h k) e = absurd (never (isCode c) e (code-gap c h k))
 after-spot c (high h k) e = after-by (ltb c 163) c h k refl
   where
     after-by : (b : Bool) (c : ℕ) → 16 ≤ c → c < 164 → ltb c 163 ≡ b → codesBelow (codeAfter c) ≡ codesBelow c + 1
@@ -151,7 +124,7 @@ after-spot c (high h k) e = after-by (ltb c 163) c h k refl
     after-by false c h k x =
         let l : 163 ≤ c = ltb-false c 163 x in
         rw (after-over c l, below-high c h k) (below-over 164 (omega arith) ∙ omega arith)
-after-spot c (over h) e = absurd (clash (isCode c) e (code-over c h))
+after-spot c (over h) e = absurd (never (isCode c) e (code-over c h))
 
 pub below-after : (c : ℕ) → isCode c ≡ true → codesBelow (codeAfter c) ≡ codesBelow c + 1
 below-after c e = after-spot c (spot c) e
@@ -160,20 +133,20 @@ below-after c e = after-spot c (spot c) e
 
 way-spot : (c : ℕ) → Spot c → isCode c ≡ false → wayOf c ≡ Nothing
 unfolding wayOf
-way-spot c (low h) e = absurd (clash (isCode c) (code-low c h) e)
+way-spot c (low h) e = absurd (never (isCode c) (code-low c h) e)
 way-spot c (gap h k) e = rw (le-ltb c 12 h, lt-ltb c 16 k)
-way-spot c (high h k) e = absurd (clash (isCode c) (code-high c h k) e)
+way-spot c (high h k) e = absurd (never (isCode c) (code-high c h k) e)
 way-spot c (over h) e = rw (le-ltb c 12 (omega arith), le-ltb c 16 (omega arith), le-ltb c 160 (omega arith), le-ltb c 164 h)
 
 spot-code : (c : ℕ) → Spot c → notCode (wayOf c) ≡ true → isCode c ≡ false
 unfolding wayOf
-spot-code c (low h) e = let z : notCode (wayOf c) ≡ false = rw (lt-ltb c 12 h) in absurd (clash (notCode (wayOf c)) e z)
+spot-code c (low h) e = let z : notCode (wayOf c) ≡ false = rw (lt-ltb c 12 h) in absurd (never (notCode (wayOf c)) e z)
 spot-code c (gap h k) e = code-gap c h k
 spot-code c (high h k) e = high-by (ltb c 160) c h k refl e
   where
     high-by : (b : Bool) (c : ℕ) → 16 ≤ c → c < 164 → ltb c 160 ≡ b → notCode (wayOf c) ≡ true → isCode c ≡ false
-    high-by true c h k x e = absurd (clash (notCode (wayOf c)) e (rw (le-ltb c 12 (omega arith), le-ltb c 16 h, x)))
-    high-by false c h k x e = absurd (clash (notCode (wayOf c)) e (rw (le-ltb c 12 (omega arith), le-ltb c 16 h, x, lt-ltb c 164 k)))
+    high-by true c h k x e = absurd (never (notCode (wayOf c)) e (rw (le-ltb c 12 (omega arith), le-ltb c 16 h, x)))
+    high-by false c h k x e = absurd (never (notCode (wayOf c)) e (rw (le-ltb c 12 (omega arith), le-ltb c 16 h, x, lt-ltb c 164 k)))
 spot-code c (over h) e = code-over c h
 
 first-one : (g : Sight) (w : Way) → FirstIs 1 (reasons g w) → notCode w ≡ true

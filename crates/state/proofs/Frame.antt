@@ -33,15 +33,15 @@ place-by : (b : Bool) (l : List ℕ) (i : ℕ) → ltb i 12 ≡ b → pick b (sl
 place-by true l i e h = ltb-true i 12 e
 place-by false l i e h = absurd (never (slotIn 0 .live) h zero-free)
 
-live-place : (l : List ℕ) (i : ℕ) → slotAt l i .live ≡ true → i < 12
+pub live-place : (l : List ℕ) (i : ℕ) → slotAt l i .live ≡ true → i < 12
 unfolding slotAt
 live-place l i h = place-by (ltb i 12) l i refl h
 
-slot-there : (l : List ℕ) (i : ℕ) → i < 12 → slotAt l i ≡ slotIn (getD l i 0)
+pub slot-there : (l : List ℕ) (i : ℕ) → i < 12 → slotAt l i ≡ slotIn (getD l i 0)
 unfolding slotAt
 slot-there l i h = rw (lt-ltb i 12 h)
 
-one-more : (n : ℕ) → n < 65535 → oneMore n ≡ n + 1
+pub one-more : (n : ℕ) → n < 65535 → oneMore n ≡ n + 1
 unfolding oneMore
 one-more n h = rw (lt-ltb n 65535 h)
 

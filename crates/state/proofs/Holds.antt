@@ -12,6 +12,7 @@ use Rattle.terms.specs.Base.{pick, also}
 use Rattle.model.specs.Records.{locationIn}
 use Rattle.model.specs.declared.records.Model.{Model}
 use Rattle.model.specs.declared.records.Action.{Action}
+use Rattle.model.proofs.Tests.{also-never}
 use Rattle.state.specs.Lock.{packLock, lockIn, heldBy}
 use Rattle.state.specs.Each.{each2}
 use Rattle.state.specs.Moves.{withLock, locked}
@@ -106,15 +107,11 @@ module _ (m : Model) where
   }
 
 -- a register is a listed location
-also-left : (b : Bool) → also b false ≡ true → ⊥
-also-left true e = never false e refl
-also-left false e = never false e refl
-
 module _ (m : Model) (g : Grounds m) where
   listed-by : (b p : Bool) (i k : ℕ) → ltb i (m .«location_count») ≡ b → also p (eqb (locationIn (getD (m .locations) i 0) .kind) (suc k)) ≡ true → i < m .«location_count»
   unfolding locationIn
   listed-by true p i k e h = ltb-true i (m .«location_count») e
-  listed-by false p i k e h = absurd (also-left p (rw (g .past i (ltb-false i (m .«location_count») e), ne-eqb 0 (suc k) (λ z. omega arith)) at h))
+  listed-by false p i k e h = absurd (never _ (rw (g .past i (ltb-false i (m .«location_count») e), ne-eqb 0 (suc k) (λ z. omega arith)) at h) (also-never p))
 
   register-listed : (p : Bool) (i k : ℕ) → also p (eqb (locationIn (getD (m .locations) i 0) .kind) (suc k)) ≡ true → i < m .«location_count»
   register-listed p i k h = listed-by (ltb i (m .«location_count»)) p i k refl h

@@ -8,9 +8,9 @@ pub mod Loops
 pub mod Pack
 pub mod Turned
 pub mod Sought
-pub mod Codes
 pub mod Live
 pub mod Threads
+pub mod Codes
 pub mod Holds
 pub mod Frame
 pub mod Fresh

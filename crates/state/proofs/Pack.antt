@@ -1,22 +1,14 @@
 -- What is packed into a number is read out of it again, slot and lock.
 use Prim.Native.Nat.{ℕ, _+_, _*_, _/_, _%_, _<_, _≤_}
 use mathlib.Core.Path.{_≡_, refl}
-use mathlib.Core.Bool.{Bool, true, false}
+use mathlib.Core.Bool.{true}
 use native.Mathlib.Omega.{arith}
-use lib.Dec.{eqb}
 use Rattle.terms.specs.Line.{bitOf}
+use Rattle.terms.proofs.Pack.{bit-small, bit-read}
 use Rattle.state.specs.Slot.{noThread, packSlot, slotIn}
 use Rattle.state.specs.Lock.{lock, noHolder, packLock, lockIn, heldBy}
 use Rattle.state.specs.declared.slot.Slot.{Slot}
 use Rattle.state.specs.declared.lock.Lock.{Lock}
-
-bit-small : (t : Bool) → bitOf t ≤ 1
-bit-small true = omega arith
-bit-small false = omega arith
-
-bit-read : (t : Bool) → eqb (bitOf t) 1 ≡ t
-bit-read true = refl
-bit-read false = refl
 
 -- the fields fit into their places of a number
 pub record SmallSlot (s : Slot) : Type 0 where
@@ -63,10 +55,6 @@ lock-packed l h =
 pub lock-held : (s : ℕ) → s < 65536 → lockIn (heldBy s) ≡ lock true s
 unfolding heldBy
 lock-held s h = lock-packed (lock true s) h
-
-pub lock-small : (n : ℕ) → lockIn n .serial < 65536
-unfolding lockIn
-lock-small n = omega arith
 
 -- the number 0 is the free lock
 pub lock-none : lockIn 0 ≡ noHolder

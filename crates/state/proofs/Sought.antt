@@ -14,7 +14,7 @@ use Rattle.model.specs.Fields.{either}
 use Rattle.state.specs.Code.{wayOf}
 use Rattle.state.specs.Reason.{reason, firstOf}
 use Rattle.state.specs.Early.{Sight, threadIn, actionOf, refusalOf, earlyOf}
-use Rattle.state.specs.Seek.{First, seekBy, seekIn, seekFrom, sends, senderIn, nextSender, silentFrom, refusedBy, refusedFrom}
+use Rattle.state.specs.Seek.{First, seekBy, seekIn, seekFrom, sends, senderIn, nextSender, silentFrom, refusedFrom}
 use Rattle.state.specs.declared.code.Way.the-variants.{Hand}
 
 -- One number

@@ -32,6 +32,7 @@ at-by false l i n j e h = there (eqb-false j i e) (getD-set-other l i j n 0 (eqb
 pub at : (l : List ℕ) (i n j : ℕ) → i < length l → At l i n j
 at l i n j h = at-by (eqb j i) l i n j refl h
 
+-- a test has one answer
 pub never : (b : Bool) → b ≡ true → b ≡ false → ⊥
 never b p q = let z : _≡_ {A = ℕ} 0 1 = cc in omega arith
 
@@ -175,7 +176,7 @@ reset-zero : (k : ℕ) → slotReset k 0 ≡ 0
 unfolding slotReset isOn slotIn
 reset-zero k = refl
 
-reset-at : (k : ℕ) (l : List ℕ) (i : ℕ) → getD (slotsReset l k) i 0 ≡ slotReset k (getD l i 0)
+pub reset-at : (k : ℕ) (l : List ℕ) (i : ℕ) → getD (slotsReset l k) i 0 ≡ slotReset k (getD l i 0)
 unfolding slotsReset
 reset-at k l i = ap (λ (d : ℕ). getD (map (slotReset k) l) i d) (sym (reset-zero k)) ∙ List·getD-map (slotReset k) l i 0
 

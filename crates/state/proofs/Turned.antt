@@ -1,14 +1,15 @@
 -- M2 for refusals 1 to 7: each is given exactly when its reason holds and none before it.
-use Prim.Native.Nat.{ℕ, _<_}
+use Prim.Native.Nat.{ℕ, _<_, _≤_}
 use mathlib.Core.Bool.{Bool, true, false, not}
 use mathlib.Core.List.{List, [], _∷_}
 use mathlib.Core.Logic.{_↔_}
 use mathlib.Core.Path.{_≡_, refl, ap}
 use native.Mathlib.Omega.{arith}
 use lib.Dec.{ltb, leb, eqb}
-use borrow.Author.Tests.{ltb-true, leb-false, eqb-true, eqb-false, not-false}
+use borrow.Author.Tests.{ltb-true, leb-true, leb-false, eqb-true, eqb-false, not-false}
 use Rattle.terms.specs.Base.{pick, also}
-use Rattle.model.specs.Fields.{either}
+use Rattle.terms.proofs.Meaning.{also-left, also-right}
+use Rattle.model.proofs.Tests.{not-both, neither}
 use Rattle.state.specs.Code.{wayOf}
 use Rattle.state.specs.Reason.{Reason, firstOf, FirstIs, here, later, NoneHolds, done, next}
 use Rattle.state.specs.Early.{Sight, threadIn, actionOf, takesLocation, isElsewhere, lockedOut, reasons, refusalOf, earlyOf}
@@ -33,17 +34,9 @@ pub first-iff : (rs : List Reason) (n : ℕ) → 0 < n → (firstOf rs ≡ n) �
 first-iff rs n h = (is-first rs n h, first-is)
 
 -- no reason has number 0
-abbrev positive : List Reason → Bool
+abbrev pub positive : List Reason → Bool
 positive [] = true
 positive (r ∷ rs) = also (ltb 0 (r .number)) (positive rs)
-
-also-first : (p q : Bool) → also p q ≡ true → p ≡ true
-also-first true q e = refl
-also-first false q e = e
-
-also-second : (p q : Bool) → also p q ≡ true → q ≡ true
-also-second true q e = e
-also-second false q e = let z : _≡_ {A = ℕ} 0 1 = cc in absurd (omega arith)
 
 none-by : (b : Bool) (r : Reason) (rs : List Reason) → r .holds ≡ b → 0 < r .number → (firstOf rs ≡ 0 → NoneHolds rs)
     → pick b (r .number) (firstOf rs) ≡ 0 → NoneHolds (r ∷ rs)
@@ -53,8 +46,8 @@ none-by false r rs p h f e = next p (f e)
 is-none : (rs : List Reason) → positive rs ≡ true → firstOf rs ≡ 0 → NoneHolds rs
 is-none [] h e = done
 is-none (r ∷ rs) h e =
-    none-by (r .holds) r rs refl (ltb-true 0 (r .number) (also-first (ltb 0 (r .number)) (positive rs) h))
-    (λ d. is-none rs (also-second (ltb 0 (r .number)) (positive rs) h) d) e
+    none-by (r .holds) r rs refl (ltb-true 0 (r .number) (also-left (ltb 0 (r .number)) (positive rs) h))
+    (λ d. is-none rs (also-right (ltb 0 (r .number)) (positive rs) h) d) e
 
 none-is : {rs : List Reason} → NoneHolds rs → firstOf rs ≡ 0
 none-is done = refl
@@ -72,6 +65,25 @@ early-iff g c n h = first-iff (reasons g (wayOf c)) n h
 pub lets-iff : (g : Sight) (c : ℕ) → (earlyOf g c ≡ 0) ↔ NoneHolds (reasons g (wayOf c))
 unfolding earlyOf refusalOf
 lets-iff g c = none-iff (reasons g (wayOf c)) refl
+
+-- their numbers go up to 7
+abbrev upTo : ℕ → List Reason → Bool
+upTo n [] = true
+upTo n (r ∷ rs) = also (leb (r .number) n) (upTo n rs)
+
+first-most : (n : ℕ) (rs : List Reason) → upTo n rs ≡ true → firstOf rs ≤ n
+first-most n [] h = omega arith
+first-most n (r ∷ rs) h =
+    go (r .holds) (leb-true (r .number) n (also-left (leb (r .number) n) (upTo n rs) h))
+    (first-most n rs (also-right (leb (r .number) n) (upTo n rs) h))
+  where
+    go : (b : Bool) → r .number ≤ n → firstOf rs ≤ n → pick b (r .number) (firstOf rs) ≤ n
+    go true p q = p
+    go false p q = q
+
+pub early-seven : (g : Sight) (c : ℕ) → earlyOf g c ≤ 7
+unfolding earlyOf refusalOf
+early-seven g c = first-most 7 (reasons g (wayOf c)) refl
 
 -- What is known of a step that none of them refuses
 
@@ -95,18 +107,6 @@ pub record LetReset (g : Sight) (m : ℕ) : Type 0 where
   pub machine : m < g .machines
   pub steps : g .steps < 60000
 
-also-when : (p q : Bool) → also p q ≡ false → p ≡ true → q ≡ false
-also-when true q e h = e
-also-when false q e h = let z : _≡_ {A = ℕ} 0 1 = cc in absurd (omega arith)
-
-either-first : (p q : Bool) → either p q ≡ false → p ≡ false
-either-first true q e = e
-either-first false q e = refl
-
-either-second : (p q : Bool) → either p q ≡ false → q ≡ false
-either-second true q e = let z : _≡_ {A = ℕ} 0 1 = cc in absurd (omega arith)
-either-second false q e = e
-
 none-advance : (g : Sight) (i : ℕ) → NoneHolds (reasons g (Advance i)) → LetAdvance g i
 none-advance g i (next p (next q (next r (next s (next t (next u (next v done))))))) =
     let a = actionOf g i in
@@ -114,10 +114,10 @@ none-advance g i (next p (next q (next r (next s (next t (next u (next v done)))
     record {
       live = not-false (threadIn g i .live) q;
       steps = leb-false 60000 (g .steps) s;
-      no-send = eqb-false (a .op) 5 (either-first (eqb (a .op) 5) (eqb (a .op) 6) t);
-      no-receive = eqb-false (a .op) 6 (either-second (eqb (a .op) 5) (eqb (a .op) 6) t);
-      near = also-when l (isElsewhere (g .locations) (a .loc) (threadIn g i .machine)) u;
-      free = also-when l (lockedOut (g .locks) a (threadIn g i .serial)) v;
+      no-send = eqb-false (a .op) 5 (neither (eqb (a .op) 5) (eqb (a .op) 6) t .0);
+      no-receive = eqb-false (a .op) 6 (neither (eqb (a .op) 5) (eqb (a .op) 6) t .1);
+      near = not-both l (isElsewhere (g .locations) (a .loc) (threadIn g i .machine)) u;
+      free = not-both l (lockedOut (g .locks) a (threadIn g i .serial)) v;
     }
 
 none-hand : (g : Sight) (i j : ℕ) → NoneHolds (reasons g (Hand i j)) → LetHand g i j
@@ -127,12 +127,12 @@ none-hand g i j (next p (next q (next r (next s (next t (next u (next v done))))
     let x : Bool = eqb (actionOf g i .op) 5 in
     let y : Bool = eqb (actionOf g j .op) 6 in
     record {
-      sender = not-false a (either-first (not a) (not b) q);
-      receiver = not-false b (either-second (not a) (not b) q);
+      sender = not-false a (neither (not a) (not b) q .0);
+      receiver = not-false b (neither (not a) (not b) q .1);
       two = eqb-false i j r;
       steps = leb-false 60000 (g .steps) s;
-      sends = eqb-true (actionOf g i .op) 5 (not-false x (either-first (not x) (not y) t));
-      receives = eqb-true (actionOf g j .op) 6 (not-false y (either-second (not x) (not y) t));
+      sends = eqb-true (actionOf g i .op) 5 (not-false x (neither (not x) (not y) t .0));
+      receives = eqb-true (actionOf g j .op) 6 (not-false y (neither (not x) (not y) t .1));
     }
 
 none-reset : (g : Sight) (m : ℕ) → NoneHolds (reasons g (Reset m)) → LetReset g m

@@ -3,23 +3,11 @@
 use terms::line::bit;
 ghost use mathlib.Core.Path.{_≡_};
 ghost use lib.ListN.{length};
-ghost use Rattle.state.specs.Lock.{noHolder, packLock, lockIn, lockAt, heldBy, barsTo, isHeldBy};
+ghost use Rattle.state.specs.Lock.{packLock, lockIn, lockAt, heldBy, barsTo, isHeldBy};
 
 pub struct Lock {
     pub held: bool,
     pub serial: u16,
-}
-
-impl Lock {
-    // A free lock.
-    pub fn free() -> Lock
-        ensures { λ r. ⌜ r ≡ noHolder ⌝ }
-    {
-        Lock {
-            held: false,
-            serial: 0,
-        }
-    }
 }
 
 pub fn pack_lock(l: Lock) -> u32

@@ -1,36 +1,14 @@
-// The next code that refusals 1 to 7 let through. It only reads, and passes codes that are refused alike together: those
-// that are none, and the hand-overs from a slot that is empty or does not send.
+// The next code that refusals 1 to 7 let through. It only reads what it is lent of a configuration, and passes codes that
+// are refused alike together: those that are none, and the hand-overs from a slot that is empty or does not send.
 use crate::code::Code;
-use crate::control::Frame;
 use crate::early::early;
 use crate::early::next_action;
 use crate::slot::slot_at;
 ghost use mathlib.Core.Path.{_≡_};
 ghost use Rattle.state.specs.Early.{sight};
-ghost use Rattle.state.specs.Seek.{seekFrom, sightOf, sends, NextSender, Silent, Refused};
+ghost use Rattle.state.specs.Seek.{seekFrom, sends, NextSender, Silent, Refused};
 
-pub fn seek<'a>(
-    f: Frame,
-    actions: &'a [u64; 512],
-    locations: &'a [u32; 32],
-    machines: u8,
-    from: u16,
-) -> u16
-    ensures { λ r. ⌜ r ≡ seekFrom (sightOf f (now (actions .entry)) (now (locations .entry)) machines) from ⌝ }
-{
-    let steps = f.steps;
-    seek_lent(
-        &f.slots,
-        &f.locks,
-        steps,
-        actions,
-        locations,
-        machines,
-        from,
-    )
-}
-
-pub fn seek_lent<'a, 'b>(
+pub fn seek<'a, 'b>(
     slots: &'a [u64; 12],
     locks: &'a [u32; 32],
     steps: u16,

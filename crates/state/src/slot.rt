@@ -3,7 +3,7 @@
 use terms::line::bit;
 ghost use mathlib.Core.Path.{_≡_};
 ghost use lib.ListN.{length};
-ghost use Rattle.state.specs.Slot.{noThread, packSlot, slotIn, slotAt, Lowest};
+ghost use Rattle.state.specs.Slot.{packSlot, slotIn, slotAt, Lowest};
 
 pub struct Slot {
     pub live: bool,
@@ -16,20 +16,6 @@ pub struct Slot {
 
 impl Slot {
     pub const SLOTS: u8 = 12;
-
-    // A free slot.
-    pub fn free() -> Slot
-        ensures { λ r. ⌜ r ≡ noThread ⌝ }
-    {
-        Slot {
-            live: false,
-            serial: 0,
-            agent: 0,
-            machine: 0,
-            program: 0,
-            position: 0,
-        }
-    }
 }
 
 pub fn pack_slot(s: Slot) -> u64

@@ -16,7 +16,6 @@ use rules::inner::Reply;
 use rules::inner::Stepped;
 use rules::inner::try_step;
 use state::control::Control;
-use terms::table::Added;
 use terms::table::Table;
 use terms::table::add;
 use terms::table::cut;

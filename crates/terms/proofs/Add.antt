@@ -10,7 +10,7 @@ use lib.ListN.{length, getD, take, drop, set, length-set, length-drop}
 use lib.Seq.{take-set-le, getD-take, getD-drop, getD-set-same, getD-set-other, getD-at, length-take-le}
 use lib.Dec.{ltb, eqb}
 use borrow.Author.Tests.{ltb-true, ltb-false, eqb-true, eqb-false}
-use Rattle.terms.proofs.Laws.{free-none, free-some}
+use Rattle.terms.proofs.Laws.{below-or, free-none, free-some}
 use Rattle.terms.specs.Base.{pick, held}
 use Rattle.terms.specs.Term.{shapeOf, inLimits, partsBy, partsBelow, afterBy, afterParts}
 use Rattle.terms.specs.Line.{packed, termIn, lineAt, termAt}
@@ -28,7 +28,9 @@ use Rattle.terms.specs.declared.table.Found.{Found}
 use Rattle.terms.specs.declared.table.Found.the-variants.{At, Nothing}
 use Rattle.terms.specs.declared.table.Outcome.the-variants as O
 use Rattle.terms.proofs.Pack.{Small, term-packed}
-use Rattle.terms.proofs.Meaning.{length-trees, trees-next, also-left, also-right, parts-more, tree-at, grade-depth, depth-right, term-one, one-label, member-den, trees-front, tree-shallow}
+use Rattle.terms.proofs.Meaning.{length-trees, trees-next, also-left, also-right, parts-more, tree-at, grade-depth, depth-right, tree-shallow}
+use Rattle.terms.proofs.Labels.{term-one, one-label, member-den}
+use Rattle.terms.proofs.Growth.{trees-front}
 
 -- What a search among lines tells
 
@@ -118,14 +120,6 @@ pushed l c x = set l c (newLine l x)
 fit-small : {x : Term} {c : ℕ} → Fit x c → Small x
 fit-small F = record { kind = F .kind; first = F .first; second = F .second }
 
--- below c, or c itself
-last-or : (P : ℕ → Type 0) (c : ℕ) → ((i : ℕ) → i < c → P i) → P c → (i : ℕ) → i < c + 1 → P i
-last-or P c f q i h = by (ltb i c) refl
-  where
-    by : (t : Bool) → ltb i c ≡ t → P i
-    by true e = f i (ltb-true i c e)
-    by false e = let g = ltb-false i c e in let r : c ≡ i = omega arith in subst P r q
-
 -- a term that has no line as computed stands at no label
 no-term : {l : List ℕ} {c : ℕ} → Sound l c → (x : Term) → ((i : ℕ) → i < c → lineAt l i ≡ newLine l x → ⊥) → (i : ℕ) → i < c → termAt l i ≡ x → ⊥
 no-term {l} S x none i h e = none i h (sym (S .lines i h) ∙ ap (newLine l) e)
@@ -173,14 +167,14 @@ module _ (l : List ℕ) (c : ℕ) (S : Sound l c) (p : length l ≡ 512) (x : Te
   one-old : (i : ℕ) → i < c → (j : ℕ) → j < c + 1 → termAt (pushed l c x) i ≡ termAt (pushed l c x) j → i ≡ j
   one-old i h =
       let m = pushed l c x in
-      last-or (λ j. termAt m i ≡ termAt m j → i ≡ j) c
+      below-or (λ j. termAt m i ≡ termAt m j → i ≡ j) c
       (λ j g e. S .distinct i j h g (ap termIn (line-old i h) ∙ e ∙ sym (ap termIn (line-old j g))))
       (λ e. absurd (no-term S x none i h (ap termIn (line-old i h) ∙ e ∙ sym term-new)))
 
   one-new : (j : ℕ) → j < c + 1 → termAt (pushed l c x) c ≡ termAt (pushed l c x) j → c ≡ j
   one-new =
       let m = pushed l c x in
-      last-or (λ j. termAt m c ≡ termAt m j → c ≡ j) c
+      below-or (λ j. termAt m c ≡ termAt m j → c ≡ j) c
       (λ j g e. absurd (no-term S x none j g (ap termIn (line-old j g) ∙ sym e ∙ sym term-new)))
       (λ e. refl)
 
@@ -192,15 +186,15 @@ module _ (l : List ℕ) (c : ℕ) (S : Sound l c) (p : length l ≡ 512) (x : Te
         some = omega (arith, S .some);
         room = omega arith;
         fixed = λ i h. sym (line-old i (omega (arith, S .some, h))) ∙ S .fixed i h;
-        limits = last-or (λ i. inLimits (termAt m i) ≡ true) c
+        limits = below-or (λ i. inLimits (termAt m i) ≡ true) c
             (λ i h. subst (λ (n : ℕ). inLimits (termIn n) ≡ true) (line-old i h) (S .limits i h))
             (subst (λ (y : Term). inLimits y ≡ true) term-new (F .limits));
-        parts = last-or (λ i. partsBelow (termAt m i) i ≡ true) c
+        parts = below-or (λ i. partsBelow (termAt m i) i ≡ true) c
             (λ i h. subst (λ (n : ℕ). partsBelow (termIn n) i ≡ true) (line-old i h) (S .parts i h))
             (subst (λ (y : Term). partsBelow y c ≡ true) term-new (F .parts));
-        shallow = last-or (λ i. gradeOf m (termAt m i) .depth ≤ 16) c low-old low-new;
-        lines = last-or (λ i. packed (termAt m i) (gradeOf m (termAt m i)) ≡ lineAt m i) c line-right-old line-right-new;
-        distinct = λ i j h g. last-or (λ k. (r : ℕ) → r < c + 1 → termAt m k ≡ termAt m r → k ≡ r) c one-old one-new i h j g;
+        shallow = below-or (λ i. gradeOf m (termAt m i) .depth ≤ 16) c low-old low-new;
+        lines = below-or (λ i. packed (termAt m i) (gradeOf m (termAt m i)) ≡ lineAt m i) c line-right-old line-right-new;
+        distinct = λ i j h g. below-or (λ k. (r : ℕ) → r < c + 1 → termAt m k ≡ termAt m r → k ≡ r) c one-old one-new i h j g;
         zeros = λ i h. getD-set-other l c i (newLine l x) 0 (omega arith) ∙ S .zeros i (omega arith);
       }
 

@@ -5,9 +5,9 @@ use mathlib.Core.Path.{_≡_, refl, sym, _∙_}
 use mathlib.Core.Bool.{Bool, true, false}
 use mathlib.Core.List.{List, [], _∷_}
 use native.Mathlib.Omega.{arith}
-use lib.ListN.{length, set, take, length-set, length-take}
+use lib.ListN.{length, set, length-set}
 use lib.Dec.{ltb, eqb}
-use lib.Seq.{getD-set-other, getD-take, ext-getD}
+use lib.Seq.{getD-set-other, ext-getD}
 use borrow.Author.Tests.{ltb-true, ltb-false}
 use Rattle.terms.proofs.Laws.{free-some}
 use Rattle.terms.specs.Base.{pick, Held, held}
@@ -15,6 +15,7 @@ use Rattle.terms.specs.Term.{afterParts}
 use Rattle.terms.specs.Line.{lineAt, packed}
 use Rattle.terms.specs.Grade.{gradeOf}
 use Rattle.terms.specs.Table.{usedOf, freeOf, wipe, cutTo, findLine, added, addBy, addTo}
+use Rattle.terms.specs.Subbed.{Got, Label, Deep, Full, Subbed}
 use Rattle.terms.specs.Subst.{planAt, enteredIn, firstBy, withFirst, secondBy, withSecond, bothBy, withBoth, thenSecond, walkBy, substIn, takenBy, secondOperand, afterFirst, takeBoth, settledBy, takeOperands}
 use Rattle.terms.specs.declared.term.Term.{Term}
 use Rattle.terms.specs.declared.table.Found.{Found}
@@ -22,9 +23,6 @@ use Rattle.terms.specs.declared.table.Found.the-variants.{At, Nothing}
 use Rattle.terms.specs.declared.table.Outcome.the-variants as O
 use Rattle.terms.specs.declared.subst.Plan.{Plan}
 use Rattle.terms.specs.declared.subst.Plan.the-variants.{Keep, First, Second, Both}
-use Rattle.terms.specs.declared.subst.Got.{Got}
-use Rattle.terms.specs.declared.subst.Got.the-variants.{Label, Deep, Full}
-use Rattle.terms.specs.declared.subst.Subbed.{Subbed}
 use Rattle.terms.specs.declared.subst.Taken.{Taken}
 use Rattle.terms.specs.declared.subst.Taken.the-variants as T
 
@@ -57,12 +55,6 @@ grown-then g h = record {
 -- a grown table is zero past its own count
 pub grown-zero : {l m : List ℕ} {c d : ℕ} → ZeroPast l c → Grown l c m d → ZeroPast m d
 grown-zero z g i s = g .past i s ∙ z i (omega arith)
-
--- the old lines stand in front
-pub grown-front : {l m : List ℕ} {c d : ℕ} → Grown l c m d → take c m ≡ take c l
-grown-front {l} {m} {c} g =
-    ext-getD 0 (take c m) (take c l) (rw (length-take c m, length-take c l, g .long))
-    (λ i s. let h : i < c = omega (arith, length-take c m) in getD-take c m i 0 h ∙ g .below i h ∙ sym (getD-take c l i 0 h))
 
 -- a line wiped is zero, be it in the list or past its end
 zero-set : (l : List ℕ) (i : ℕ) → lineAt (set l i 0) i ≡ 0

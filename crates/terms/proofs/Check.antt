@@ -9,7 +9,7 @@ use lib.ListN.{length, getD, take, drop}
 use lib.Dec.{ltb, eqb}
 use lib.Seq.{getD-take, getD-drop, length-take-le}
 use borrow.Author.Tests.{ltb-true, ltb-false, le-ltb, eqb-true, eqb-false, eq-eqb, ne-eqb}
-use Rattle.terms.specs.Base.{pick}
+use Rattle.terms.specs.Base.{pick, also}
 use Rattle.terms.specs.Term.{shapeOf, inLimits, partsBelow}
 use Rattle.terms.specs.Line.{packed, termIn, depthIn, groundIn, lineAt, termAt}
 use Rattle.terms.specs.Grade.{deeperOf, aboveLine, aboveBoth, gradeOf}
@@ -17,16 +17,10 @@ use Rattle.terms.specs.Table.{fixedLine, freshTable, findIn, findLine}
 use Rattle.terms.specs.Sound.{fixedFirst, isNew, lineSound, linesFrom, allZero, soundTest, Sound}
 use Rattle.terms.specs.declared.term.Term.{Term}
 use Rattle.terms.specs.declared.table.Found.the-variants.{At}
+use Rattle.terms.proofs.Meaning.{also-left, also-right, also-both}
 
--- tests one after another: what a passed chain of them says, and the way back
-both-pass : (p q : Bool) → pick p q false ≡ true → (p ≡ true) × (q ≡ true)
-both-pass true q e = (refl, e)
-both-pass false q e = (e, cc)
-
-pass-both : {p q : Bool} → p ≡ true → q ≡ true → pick p q false ≡ true
-pass-both e f = rw (e, f)
-
-unless-pass : (p q : Bool) → pick p false q ≡ true → (p ≡ false) × (q ≡ true)
+-- a test that must not hold, and one after it: what the passed two say, and the way back
+pub unless-pass : (p q : Bool) → pick p false q ≡ true → (p ≡ false) × (q ≡ true)
 unless-pass true q e = (sym e, cc)
 unless-pass false q e = (refl, e)
 
@@ -64,28 +58,28 @@ module _ (l : List ℕ) (long : length l ≡ 512) where
 lines-all : (n i : ℕ) (l : List ℕ) → linesFrom n i l ≡ true → (j : ℕ) → i ≤ j → j < i + n → lineSound l j ≡ true
 unfolding linesFrom
 lines-all zero i l e j h k = absurd (omega arith)
-lines-all (suc n) i l e j h k = go (ltb i j) refl (lines-all n (i + 1) l (both-pass (lineSound l i) (linesFrom n (i + 1) l) e .1) j)
+lines-all (suc n) i l e j h k = go (ltb i j) refl (lines-all n (i + 1) l (also-right (lineSound l i) (linesFrom n (i + 1) l) e) j)
   where
     go : (b : Bool) → ltb i j ≡ b → (i + 1 ≤ j → j < i + 1 + n → lineSound l j ≡ true) → lineSound l j ≡ true
     go true f ih = ih (omega (arith, ltb-true i j f)) (omega arith)
-    go false f ih = let s : j ≡ i = omega (arith, ltb-false i j f) in rw s (both-pass (lineSound l i) (linesFrom n (i + 1) l) e .0)
+    go false f ih = let s : j ≡ i = omega (arith, ltb-false i j f) in rw s (also-left (lineSound l i) (linesFrom n (i + 1) l) e)
 
 all-lines : (n i : ℕ) (l : List ℕ) → ((j : ℕ) → i ≤ j → j < i + n → lineSound l j ≡ true) → linesFrom n i l ≡ true
 unfolding linesFrom
 all-lines zero i l f = refl
-all-lines (suc n) i l f = pass-both (f i (omega arith) (omega arith)) (all-lines n (i + 1) l (λ j h k. f j (omega arith) (omega arith)))
+all-lines (suc n) i l f = also-both (f i (omega arith) (omega arith)) (all-lines n (i + 1) l (λ j h k. f j (omega arith) (omega arith)))
 
 -- all that is left is zero
 zero-at : (l : List ℕ) → allZero l ≡ true → (i : ℕ) → getD l i 0 ≡ 0
 unfolding allZero
 zero-at [] e i = refl
-zero-at (m ∷ l) e zero = eqb-true m 0 (both-pass (eqb m 0) (allZero l) e .0)
-zero-at (m ∷ l) e (suc i) = zero-at l (both-pass (eqb m 0) (allZero l) e .1) i
+zero-at (m ∷ l) e zero = eqb-true m 0 (also-left (eqb m 0) (allZero l) e)
+zero-at (m ∷ l) e (suc i) = zero-at l (also-right (eqb m 0) (allZero l) e) i
 
 at-zero : (l : List ℕ) → ((i : ℕ) → getD l i 0 ≡ 0) → allZero l ≡ true
 unfolding allZero
 at-zero [] f = refl
-at-zero (m ∷ l) f = pass-both (eq-eqb m 0 (f 0)) (at-zero l (λ i. f (suc i)))
+at-zero (m ∷ l) f = also-both (eq-eqb m 0 (f 0)) (at-zero l (λ i. f (suc i)))
 
 -- what the test says of one line
 record Judged (l : List ℕ) (i : ℕ) : Type 0 where
@@ -98,29 +92,30 @@ record Judged (l : List ℕ) (i : ℕ) : Type 0 where
 judged : (l : List ℕ) (i : ℕ) → lineSound l i ≡ true → Judged l i
 unfolding lineSound
 judged l i e =
-    let a = both-pass _ _ e in
-    let b = both-pass _ _ (a .1) in
-    let c = unless-pass _ _ (b .1) in
-    let d = both-pass _ _ (c .1) in
+    let a = also-right (inLimits (termAt l i)) _ e in
+    let c = unless-pass _ _ (also-right (partsBelow (termAt l i) i) _ a) in
     record {
-      limits = a .0;
-      parts = b .0;
+      limits = also-left _ _ e;
+      parts = also-left _ _ a;
       shallow = ltb-false 16 (gradeOf l (termAt l i) .depth) (c .0);
-      line = eqb-true _ _ (d .0);
-      new = d .1;
+      line = eqb-true _ _ (also-left _ _ (c .1));
+      new = also-right (eqb (packed (termAt l i) (gradeOf l (termAt l i))) (lineAt l i)) _ (c .1);
     }
 
 judge : (l : List ℕ) (i : ℕ) → Judged l i → lineSound l i ≡ true
 unfolding lineSound
-judge l i j = pass-both (j .limits) (pass-both (j .parts) (pass-unless (le-ltb 16 (gradeOf l (termAt l i) .depth) (j .shallow)) (pass-both (eq-eqb _ _ (j .line)) (j .new))))
+judge l i j =
+    also-both (j .limits)
+    (also-both (j .parts)
+    (pass-unless (le-ltb 16 (gradeOf l (termAt l i) .depth) (j .shallow))
+    (also-both (eq-eqb _ _ (j .line)) (j .new))))
 
 -- labels 0, 1, 2
 first-fixed : (l : List ℕ) → fixedFirst l ≡ true → (i : ℕ) → i < 3 → lineAt l i ≡ fixedLine i
 unfolding fixedFirst
 first-fixed l e i h =
-    let p = both-pass (is 0) (pick (is 1) (is 2) false) e in
-    let q = both-pass (is 1) (is 2) (p .1) in
-    go i h (p .0) (q .0) (q .1)
+    let p = also-right (is 0) (also (is 1) (is 2)) e in
+    go i h (also-left (is 0) (also (is 1) (is 2)) e) (also-left (is 1) (is 2) p) (also-right (is 1) (is 2) p)
   where
     is : ℕ → Bool
     is k = eqb (lineAt l k) (fixedLine k)
@@ -133,7 +128,7 @@ first-fixed l e i h =
 
 fixed-first : (l : List ℕ) → ((i : ℕ) → i < 3 → lineAt l i ≡ fixedLine i) → fixedFirst l ≡ true
 unfolding fixedFirst
-fixed-first l f = pass-both (eq-eqb _ _ (f 0 (omega arith))) (pass-both (eq-eqb _ _ (f 1 (omega arith))) (eq-eqb _ _ (f 2 (omega arith))))
+fixed-first l f = also-both (eq-eqb _ _ (f 0 (omega arith))) (also-both (eq-eqb _ _ (f 1 (omega arith))) (eq-eqb _ _ (f 2 (omega arith))))
 
 -- lines judged one by one are terms that all differ
 module _ (l : List ℕ) (long : length l ≡ 512) (c : ℕ) (room : c ≤ 512) (js : (i : ℕ) → i < c → Judged l i) where
@@ -163,20 +158,19 @@ unfolding soundTest
 test-sound {l} {c} long e =
     let p = unless-pass _ _ e in
     let q = unless-pass _ _ (p .1) in
-    let r = both-pass _ _ (q .1) in
-    let s = both-pass _ _ (r .1) in
+    let s = also-right (fixedFirst l) _ (q .1) in
     let room : c ≤ 512 = ltb-false 512 c (q .0) in
-    let js : (i : ℕ) → i < c → Judged l i = lines-judged l c (s .0) in
+    let js : (i : ℕ) → i < c → Judged l i = lines-judged l c (also-left _ _ s) in
     record {
       some = ltb-false c 3 (p .0);
       room = room;
-      fixed = first-fixed l (r .0);
+      fixed = first-fixed l (also-left _ _ (q .1));
       limits = λ i h. js i h .limits;
       parts = λ i h. js i h .parts;
       shallow = λ i h. js i h .shallow;
       lines = λ i h. js i h .line;
       distinct = differ l long c room js;
-      zeros = rest-zero l c (s .1);
+      zeros = rest-zero l c (also-right (linesFrom c 0 l) _ s);
     }
 
 -- what is sound passes the test
@@ -185,8 +179,8 @@ unfolding soundTest
 sound-test {l} {c} long s =
     pass-unless (le-ltb c 3 (s .some))
     (pass-unless (le-ltb 512 c (s .room))
-    (pass-both (fixed-first l (s .fixed))
-    (pass-both (all-lines c 0 l (λ i a b. judge l i (fine i (omega arith)))) (at-zero (drop c l) (λ i. getD-drop c l i 0 ∙ s .zeros (c + i) (omega arith))))))
+    (also-both (fixed-first l (s .fixed))
+    (also-both (all-lines c 0 l (λ i a b. judge l i (fine i (omega arith)))) (at-zero (drop c l) (λ i. getD-drop c l i 0 ∙ s .zeros (c + i) (omega arith))))))
   where
     fine : (i : ℕ) → i < c → Judged l i
     fine i h = record {

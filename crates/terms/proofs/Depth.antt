@@ -15,7 +15,7 @@ use Rattle.terms.specs.Line.{lineAt, termAt, depthIn, groundIn}
 use Rattle.terms.specs.Subst.{planBy, planAt, fitsBy, fitsWithin}
 use Rattle.terms.specs.Sound.{Sound}
 use Rattle.terms.specs.Tree.{Tree, leaf, sealed, applied, joined, nought, deepness, isGround, substT, enter}
-use Rattle.terms.specs.Meaning.{buildBy, build, trees, treeOf, means, Den}
+use Rattle.terms.specs.Meaning.{buildBy, build, trees, treeOf, Den}
 use Rattle.terms.specs.Promise.{Fit, Each, none, one}
 use Rattle.terms.specs.declared.term.Term.{Term}
 use Rattle.terms.specs.declared.term.Shape.{Shape}
@@ -23,7 +23,9 @@ use Rattle.terms.specs.declared.term.Shape.the-variants.{Bare, Number, V
 use Rattle.terms.specs.declared.subst.Plan.{Plan}
 use Rattle.terms.specs.declared.subst.Plan.the-variants.{Keep, First, Second, Both}
 use Rattle.terms.proofs.Pack.{term-small}
-use Rattle.terms.proofs.Meaning.{tree-at, depth-right, ground-right, part-sealed, part-hashed, part-applied, part-first, part-second, parts-more, den-at, den-member, member-den, den-nought, variable-six, other-six}
+use Rattle.terms.proofs.Meaning.{depth-right, ground-right, part-sealed, part-hashed, part-applied, part-first, part-second, parts-more, variable-six, other-six}
+use Rattle.terms.proofs.Labels.{den-at, tree-is, den-member, member-den}
+use Rattle.terms.proofs.Growth.{den-nought}
 use Rattle.terms.proofs.Enter.{Parts, bare, first, second, both, Whole, enter-known, deepness-some, subst-of-ground}
 
 -- a value and its tree stand at the same place, label 0 and number 0 where there is none
@@ -97,11 +99,6 @@ leb-max d e n = go (leb d n) (leb e n) refl refl ∙ sym (leb-up (max d e) n)
     go false q f g = let h : n < d = leb-false d n f in sym (lt-leb (max d e) n (omega arith))
 
 module _ {l : List ℕ} {c : ℕ} (sound : Sound l c) (long : length l ≡ 512) where
-  -- the term at a label, written out
-  tree-is : {i : ℕ} {x : Tree} → Den l c i x → build (termAt l i) (trees l c) ≡ x
-  unfolding means
-  tree-is {i} d = sym (tree-at sound long i (d .below)) ∙ d .is
-
   -- a label's parts are labels
   module _ (i : ℕ) (h : i < c) where
     parts-in : partsBelow (termAt l i) c ≡ true
@@ -131,7 +128,9 @@ module _ {l : List ℕ} {c : ℕ} (sound : Sound l c) (long : length l ≡ 512) 
 
   -- the terms of a table hold all their parts
   pub trees-whole : Whole (trees l c)
-  trees-whole = record { parts = λ x m. let p = member-den sound long x m in subst (Parts (trees l c)) (tree-is (p .1)) (parts-at (p .0) (p .1 .below)) }
+  trees-whole = record {
+    parts = λ x m. let p = member-den sound long x m in subst (Parts (trees l c)) (tree-is sound long (p .1)) (parts-at (p .0) (p .1 .below));
+  }
 
   -- so a tree that a label denotes enters nothing
   pub den-enters : {i : ℕ} {x : Tree} → Den l c i x → enter (trees l c) x ≡ trees l c
@@ -186,7 +185,7 @@ module _ {l : List ℕ} {c : ℕ} (sound : Sound l c) (long : length l ≡ 512) 
             let g : isGround x ≡ true = ap isGround (sym (d .is)) ∙ sym (ground-right sound long i (d .below)) ∙ e in
             keeps {j = i} {x = x} (rw (subst-of-ground ws o x g) d)
         go false e =
-            let t : build (termAt l i) (trees l c) ≡ x = tree-is d in
+            let t : build (termAt l i) (trees l c) ≡ x = tree-is sound long d in
             subst (Goes l c ws o i (planBy (shapeOf (termAt l i .kind)) (termAt l i) vs o i)) t (goes-term i (d .below) (rw t d))
 
     -- the depth of the result, by the plan

@@ -5,24 +5,15 @@ use mathlib.Core.Path.{_≡_, refl}
 use mathlib.Core.Bool.{Bool, true, false}
 use mathlib.Core.List.{List, [], _∷_, _++_, append-assoc, append-nil}
 use native.Mathlib.Omega.{arith}
-use native.Mathlib.Decide.{ℕ-discrete}
 use lib.ListN.{length, getD, length-append}
 use lib.Dec.{eqb}
 use Rattle.terms.specs.Base.{pick}
-use Rattle.terms.specs.Tree.{Tree, leaf, sealed, applied, joined, nought, decTree, deepness, isGround, substT, truth, same, member, with, enter}
-use Rattle.terms.proofs.Meaning.{also-left, also-right, same-self}
-
--- two trees that are not the same
-pub same-false : (x y : Tree) → same x y ≡ false → x ≡ y → ⊥
-unfolding same
-same-false x y = go (decTree ℕ-discrete x y)
-  where
-    go : (d : Dec (x ≡ y)) → truth d ≡ false → x ≡ y → ⊥
-    go (yes p) e q = let z : _≡_ {A = ℕ} 0 1 = cc in omega arith
-    go (no f) e q = f q
+use Rattle.terms.specs.Tree.{Tree, leaf, sealed, applied, joined, nought, deepness, isGround, substT, same, member, with, enter}
+use Rattle.terms.proofs.Meaning.{also-left, also-right}
+use Rattle.terms.proofs.Labels.{same-self}
 
 -- a test with the same two answers
-pick-same : (b : Bool) → pick b true true ≡ true
+pub pick-same : (b : Bool) → pick b true true ≡ true
 pick-same true = refl
 pick-same false = refl
 
@@ -81,10 +72,6 @@ longer-same ks = go (more [])
 pub longer-then : {ks ls ms : List Tree} → Longer ks ls → Longer ls ms → Longer ks ms
 longer-then {ks} (more r) (more s) = rw append-assoc (more (r ++ s))
 
--- what stands behind
-pub longer-rest : {ks ls : List Tree} → Longer ks ls → (r : List Tree) × (ls ≡ ks ++ r)
-longer-rest (more r) = (r, refl)
-
 -- it is no shorter
 pub longer-length : {ks ls : List Tree} → Longer ks ls → length ks ≤ length ls
 longer-length {ks} (more r) = simp length-append (omega arith)
@@ -117,14 +104,6 @@ with-length ks x = longer-length (with-longer ks x)
 -- nor by entering a tree
 pub enter-length : (ks : List Tree) (x : Tree) → length ks ≤ length (enter ks x)
 enter-length ks x = longer-length (enter-longer ks x)
-
--- what was entered is there
-pub enter-has : (ks : List Tree) (x : Tree) → member x (enter ks x) ≡ true
-unfolding enter
-enter-has ks (leaf k a) = with-has ks (leaf k a)
-enter-has ks (sealed k x n) = with-has (enter ks x) (sealed k x n)
-enter-has ks (applied k f x) = with-has (enter ks x) (applied k f x)
-enter-has ks (joined k x y) = with-has (enter (enter ks x) y) (joined k x y)
 
 -- the parts of a tree are members of ks
 pub data Parts (ks : List Tree) : Tree → Type 0 where

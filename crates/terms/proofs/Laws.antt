@@ -3,7 +3,7 @@
 use Prim.Native.Nat.{ℕ, zero, suc, _+_, _-_, _<_, _≤_, min}
 use mathlib.Core.Bool.{Bool, true, false}
 use mathlib.Core.List.{List}
-use mathlib.Core.Path.{_≡_, refl}
+use mathlib.Core.Path.{_≡_, refl, subst}
 use native.Mathlib.Numerals.{add-one, sub-one}
 use native.Mathlib.Nat.{sub-add-eq, sub-eq-zero-of-le}
 use native.Mathlib.Omega.{arith}
@@ -13,13 +13,21 @@ use lib.Dec.{ltb, eqb}
 use borrow.Author.Tests.{ltb-true, ltb-false, eqb-true, eqb-false, le-leb, lt-leb, lt-ltb, le-ltb, eq-eqb, ne-eqb}
 use Rattle.terms.specs.Base.{pick, held}
 use Rattle.terms.specs.Table.{usedOf, freeOf, findIn, wipe}
-use Rattle.terms.specs.Subst.{planAt, fitsBy, fitsWithin, subbed, walkBy, substIn}
+use Rattle.terms.specs.Subbed.{Deep, subbed}
+use Rattle.terms.specs.Subst.{planAt, fitsBy, fitsWithin, walkBy, substIn}
 use Rattle.terms.specs.Sound.{lineSound, linesFrom, allZero}
 use Rattle.terms.specs.declared.table.Found.the-variants.{At, Nothing}
-use Rattle.terms.specs.declared.subst.Got.the-variants.{Deep}
 
 -- a test on numbers, as the branch tells it
 pub ruleset tests = (le-leb, lt-leb, lt-ltb, le-ltb, eq-eqb, ne-eqb)
+
+-- below n, or n itself
+pub below-or : (P : ℕ → Type 0) (n : ℕ) → ((i : ℕ) → i < n → P i) → P n → (i : ℕ) → i < n + 1 → P i
+below-or P n f q i h = by (ltb i n) refl
+  where
+    by : (t : Bool) → ltb i n ≡ t → P i
+    by true e = f i (ltb-true i n e)
+    by false e = let g = ltb-false i n e in let r : n ≡ i = omega arith in subst P r q
 
 free-by : (b : Bool) (c : ℕ) → ltb c 512 ≡ b → pick b (512 - c) 0 ≡ 512 - c
 free-by true c e = refl

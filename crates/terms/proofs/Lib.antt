@@ -1,10 +1,13 @@
 -- Beside the proofs of the functions: the laws that these cite (Laws), and the theorems of the crate, each file resting
--- on those above it. T1 is label-iff of Meaning, T2 adds of Add, T3 substs and takes of Substs.
+-- on those above it. T1 is label-iff of Labels, T2 adds of Add, T3 substs and takes of Substs.
 pub mod Laws
+pub mod Answers
 pub mod Pack
 pub mod Back
-pub mod Check
 pub mod Meaning
+pub mod Check
+pub mod Labels
+pub mod Growth
 pub mod Add
 pub mod Enter
 pub mod Depth

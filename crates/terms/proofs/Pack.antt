@@ -19,11 +19,12 @@ pub term-small : (n : ℕ) → Small (termIn n)
 unfolding termIn
 term-small n = record { kind = omega arith; first = omega arith; second = omega arith }
 
-bit-small : (t : Bool) → bitOf t ≤ 1
+-- a mark is one bit, and read as it was set
+pub bit-small : (t : Bool) → bitOf t ≤ 1
 bit-small true = omega arith
 bit-small false = omega arith
 
-bit-read : (t : Bool) → eqb (bitOf t) 1 ≡ t
+pub bit-read : (t : Bool) → eqb (bitOf t) 1 ≡ t
 bit-read true = refl
 bit-read false = refl
 
@@ -55,10 +56,3 @@ ground-packed x g s h =
 -- equal lines are of equal terms
 pub packed-one : (x y : Term) (g h : Grade) → Small x → Small y → packed x g ≡ packed y h → x ≡ y
 packed-one x y g h s t p = sym (term-packed x g s) ∙ ap termIn p ∙ term-packed y h t
-
--- and of equal grades
-pub packed-grade : (x y : Term) (g h : Grade) → Small x → Small y → g .depth < 256 → h .depth < 256 → packed x g ≡ packed y h → g ≡ h
-packed-grade x y g h s t u v p =
-    let d : g .depth ≡ h .depth = sym (depth-packed x g s u) ∙ ap depthIn p ∙ depth-packed y h t v in
-    let m : g .ground ≡ h .ground = sym (ground-packed x g s u) ∙ ap groundIn p ∙ ground-packed y h t v in
-    λ i. record { depth = d i; ground = m i }

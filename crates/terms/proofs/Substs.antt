@@ -13,7 +13,9 @@ use Rattle.terms.specs.Base.{pick, Held, held}
 use Rattle.terms.specs.Term.{term}
 use Rattle.terms.specs.Line.{termIn, termAt}
 use Rattle.terms.specs.Table.{cutTo}
-use Rattle.terms.specs.Subst.{subbed, asGot, enteredIn, withFirst, withSecond, withBoth, thenSecond, walkBy, substIn, operands, secondOperand, takeBy, takeBoth, deepOrFull, settled, takeOperands}
+use Rattle.terms.specs.Subbed as G
+use Rattle.terms.specs.Subbed.{Subbed, subbed}
+use Rattle.terms.specs.Subst.{asGot, enteredIn, withFirst, withSecond, withBoth, thenSecond, walkBy, substIn, operands, secondOperand, takeBy, takeBoth, deepOrFull, settled, takeOperands}
 use Rattle.terms.specs.Sound.{Sound}
 use Rattle.terms.specs.Tree.{Tree, sealed, applied, joined, deepness, substT, member, with, enter}
 use Rattle.terms.specs.Meaning.{trees, treeOf, means, Den}
@@ -21,12 +23,12 @@ use Rattle.terms.specs.Promise.{Fit, Grows, Each, none, one, Adds, liste
 use Rattle.terms.specs.declared.term.Term.{Term}
 use Rattle.terms.specs.declared.table.Added.{Added}
 use Rattle.terms.specs.declared.subst.Plan.{Plan}
-use Rattle.terms.specs.declared.subst.Subbed.{Subbed}
-use Rattle.terms.specs.declared.subst.Got.the-variants as G
 use Rattle.terms.specs.declared.subst.Operands.{Operands}
 use Rattle.terms.specs.declared.subst.Taken.the-variants as T
 use Rattle.terms.proofs.Back.{cut-back, both-operands-grow}
-use Rattle.terms.proofs.Meaning.{length-trees, tree-shallow, den-at, den-member, term-grows, den-grows, grows-refl, grows-then}
+use Rattle.terms.proofs.Meaning.{length-trees, tree-shallow}
+use Rattle.terms.proofs.Labels.{den-at, den-member}
+use Rattle.terms.proofs.Growth.{term-grows, den-grows, grows-refl, grows-then}
 use Rattle.terms.proofs.Add.{adds}
 use Rattle.terms.proofs.Enter.{with-known, with-new, with-length, enter-length, deepness-some}
 use Rattle.terms.proofs.Depth.{Seals, Applies, Joins, Goes, keeps, goes-first, goes-second, goes-both, den-enters, goes, fits-den}

@@ -1,6 +1,6 @@
 -- "A leaf has depth 1, another term one more than its deepest part"; "a term without variables is ground".
-use Prim.Native.Nat.{ℕ, _+_, max}
-use mathlib.Core.Bool.{Bool, true, false}
+use Prim.Native.Nat.{ℕ, _+_}
+use mathlib.Core.Bool.{true, false}
 use mathlib.Core.List.{List}
 use lib.Dec.{ltb}
 use Rattle.terms.specs.Base.{pick, also}

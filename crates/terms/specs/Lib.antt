@@ -4,7 +4,9 @@ pub mod Term
 pub mod Line
 pub mod Grade
 pub mod Table
+pub mod Subbed
 pub mod Subst
+pub mod Entry
 pub mod Sound
 pub mod Tree
 pub mod Meaning

@@ -7,7 +7,9 @@ use lib.ListN.{length, take}
 use Rattle.terms.specs.Base.{Held, held}
 use Rattle.terms.specs.Term.{inLimits, partsBelow}
 use Rattle.terms.specs.Table.{added}
-use Rattle.terms.specs.Subst.{subbed, operands}
+use Rattle.terms.specs.Subbed as G
+use Rattle.terms.specs.Subbed.{Subbed, subbed}
+use Rattle.terms.specs.Subst.{operands}
 use Rattle.terms.specs.Sound.{Sound}
 use Rattle.terms.specs.Tree.{Tree, deepness, member, enter}
 use Rattle.terms.specs.Meaning.{trees, means, Den}
@@ -16,8 +18,6 @@ use Rattle.terms.specs.declared.table.Added.{Added}
 use Rattle.terms.specs.declared.table.Found.{Found}
 use Rattle.terms.specs.declared.table.Found.the-variants as F
 use Rattle.terms.specs.declared.table.Outcome.the-variants as O
-use Rattle.terms.specs.declared.subst.Subbed.{Subbed}
-use Rattle.terms.specs.declared.subst.Got.the-variants as G
 use Rattle.terms.specs.declared.subst.Operands.{Operands}
 use Rattle.terms.specs.declared.subst.Taken.the-variants as T
 

@@ -1,16 +1,15 @@
 -- The soundness of a table, as a test on every list of numbers and every count, in the order of the code.
-use Prim.Native.Nat.{ℕ, zero, suc, _+_, _-_, _<_, _≤_}
+use Prim.Native.Nat.{ℕ, zero, suc, _+_, _<_, _≤_}
 use mathlib.Core.Path.{_≡_}
 use mathlib.Core.Bool.{Bool, true, false}
 use mathlib.Core.List.{List, [], _∷_}
-use lib.ListN.{getD, drop}
+use lib.ListN.{drop}
 use lib.Dec.{ltb, eqb}
 use Rattle.terms.specs.Base.{pick}
 use Rattle.terms.specs.Term.{inLimits, partsBelow}
 use Rattle.terms.specs.Line.{lineAt, termAt, packed}
 use Rattle.terms.specs.Grade.{gradeOf}
 use Rattle.terms.specs.Table.{findLine, fixedLine}
-use Rattle.terms.specs.declared.term.Term.{Term}
 use Rattle.terms.specs.declared.line.Grade.{Grade}
 use Rattle.terms.specs.declared.table.Found.{Found}
 use Rattle.terms.specs.declared.table.Found.the-variants.{At, Nothing}

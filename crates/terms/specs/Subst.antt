@@ -1,13 +1,14 @@
 -- A thread's values put for variables. Variable a stands at place o + a of the values.
 use Prim.Native.Nat.{ℕ, zero, suc, _+_}
-use mathlib.Core.Bool.{Bool, true, false}
+use mathlib.Core.Bool.{Bool, false}
 use mathlib.Core.List.{List}
 use lib.ListN.{getD}
 use lib.Dec.{leb}
-use Rattle.terms.specs.Base.{pick, also, Held, held}
+use Rattle.terms.specs.Base.{pick, Held, held}
 use Rattle.terms.specs.Term.{term, shapeOf}
 use Rattle.terms.specs.Line.{lineAt, termAt, depthIn, groundIn}
 use Rattle.terms.specs.Table.{addTo, cutTo}
+use Rattle.terms.specs.Subbed.{Got, Label, Deep, Full, Subbed, subbed}
 use Rattle.terms.specs.declared.term.Term.{Term}
 use Rattle.terms.specs.declared.term.Shape.{Shape}
 use Rattle.terms.specs.declared.term.Shape.the-variants.{Bare, Number, Variable, Sealed, Hashed, Applied, Joined, Unknown}
@@ -16,9 +17,6 @@ use Rattle.terms.specs.declared.table.Outcome.{Outcome}
 use Rattle.terms.specs.declared.table.Outcome.the-variants as O
 use Rattle.terms.specs.declared.subst.Plan.{Plan}
 use Rattle.terms.specs.declared.subst.Plan.the-variants.{Keep, First, Second, Both}
-use Rattle.terms.specs.declared.subst.Got.{Got}
-use Rattle.terms.specs.declared.subst.Got.the-variants.{Label, Deep, Full}
-use Rattle.terms.specs.declared.subst.Subbed.{Subbed}
 use Rattle.terms.specs.declared.subst.Taken.{Taken}
 use Rattle.terms.specs.declared.subst.Taken.the-variants as T
 use Rattle.terms.specs.declared.subst.Operands.{Operands}
@@ -47,9 +45,6 @@ fitsBy (Both a b) l room deeper = pick (deeper a) (deeper b) false
 unfoldable pub fitsWithin : ℕ → List ℕ → List ℕ → ℕ → ℕ → Bool
 fitsWithin zero l vs o i = false
 fitsWithin (suc n) l vs o i = fitsBy (planAt l vs o i) l (suc n) (λ j. fitsWithin n l vs o j)
-
-abbrev pub subbed : Got → ℕ → Subbed
-subbed g c = record { got = g; count = c }
 
 -- a term listed, old or new, as an answer
 abbrev pub gotBy : Outcome → Got

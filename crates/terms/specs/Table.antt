@@ -1,7 +1,7 @@
 -- The table of terms: a list of lines of which the first `count` hold terms. A label is a line's place.
 use Prim.Native.Nat.{ℕ, zero, suc, _+_, _-_, _≤_, max}
 use mathlib.Core.Path.{_≡_}
-use mathlib.Core.Bool.{Bool, true, false}
+use mathlib.Core.Bool.{true}
 use mathlib.Core.List.{List, [], _∷_}
 use lib.ListN.{take, drop, set, replicate}
 use lib.Dec.{ltb, eqb}

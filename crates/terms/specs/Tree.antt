@@ -29,6 +29,13 @@ sinit = leaf 1 0
 abbrev pub dinit : Tree
 dinit = leaf 2 0
 
+-- the kind that a term shows
+unfoldable pub kindOf : Tree → ℕ
+kindOf (leaf k a) = k
+kindOf (sealed k x n) = k
+kindOf (applied k f x) = k
+kindOf (joined k x y) = k
+
 -- "A leaf has depth 1, another term one more than its deepest part"
 unfoldable pub deepness : Tree → ℕ
 deepness (leaf k a) = 1

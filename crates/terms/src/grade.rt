@@ -65,7 +65,7 @@ fn above_both(m: u64, n: u64) -> Grade
     }
 }
 
-fn deeper(m: u8, n: u8) -> u8
+pub fn deeper(m: u8, n: u8) -> u8
     ensures { λ r. ⌜ r ≡ deeperOf m n ⌝ }
 {
     if m < n { n } else { m }

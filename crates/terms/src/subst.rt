@@ -1,22 +1,27 @@
 // A thread's values put for variables, down the parts of a term. Variable a of the thread stands at place base + a of
 // the lent values. Asking how deep the result would be enters nothing; substituting enters new terms in the order
 // first part, second part, whole.
+use crate::entry::entered;
 use crate::line::depth_in;
 use crate::line::ground_in;
 use crate::line::line_at;
 use crate::line::term_in;
-use crate::table::Added;
-use crate::table::Outcome;
-use crate::table::add_parts;
+use crate::subbed::count_in;
+use crate::subbed::got_deep;
+use crate::subbed::got_label;
+use crate::subbed::has_label;
+use crate::subbed::is_deep;
+use crate::subbed::label_in;
 use crate::table::cut;
 use crate::term::Shape;
 use crate::term::shape_of;
 ghost use mathlib.Core.Path.{_≡_};
 ghost use Prim.Native.Nat.{_+_};
 ghost use lib.ListN.{getD};
-ghost use Rattle.terms.specs.Term.{term};
 ghost use Rattle.terms.specs.Base.{held};
-ghost use Rattle.terms.specs.Subst.{planAt, fitsWithin, enteredIn, withFirst, withSecond, withBoth, secondOperand, substIn, takeBoth, deepOrFull, takeOperands};
+ghost use Rattle.terms.specs.Subbed.{Label, subbed, subbedIn};
+ghost use Rattle.terms.specs.Subst.{planAt, fitsWithin, withFirst, withSecond, withBoth, secondOperand, substIn, takeBoth, deepOrFull, takeOperands};
+ghost use Rattle.terms.specs.Entry.{notTaken};
 
 // What is to be done at a label: keep a label, or go down its parts.
 pub enum Plan {
@@ -24,18 +29,6 @@ pub enum Plan {
     First(u16),
     Second(u16),
     Both(u16, u16),
-}
-
-// A label, or why there is none.
-pub enum Got {
-    Label(u16),
-    Deep,
-    Full,
-}
-
-pub struct Subbed {
-    pub got: Got,
-    pub count: u16,
 }
 
 // Both operands of an action.
@@ -51,15 +44,16 @@ pub struct Operands {
 }
 
 // The value at base + a, 0 where there is none.
-fn value_at(values: &[u16], base: u16, a: u16) -> u16
+fn value_at(values: &[u16; 192], base: u16, a: u16) -> u16
     ensures { λ r. ⌜ r ≡ getD (now (values .entry)) (base + a) 0 ⌝ }
 {
+    let all: &[u16] = values;
     let i = base as usize + a as usize;
-    if i < values.len() { values[i] } else { 0 }
+    if i < all.len() { all[i] } else { 0 }
 }
 
 // A ground term is its own substitution, so its parts are not walked.
-pub fn plan_at(t: &[u64; 512], values: &[u16], base: u16, label: u16) -> Plan
+pub fn plan_at(t: &[u64; 512], values: &[u16; 192], base: u16, label: u16) -> Plan
     ensures { λ r. ⌜ r ≡ planAt (now (t .entry)) (now (values .entry)) base label ⌝ }
 {
     let n = line_at(t, label);
@@ -81,7 +75,7 @@ pub fn plan_at(t: &[u64; 512], values: &[u16], base: u16, label: u16) -> Plan
 }
 
 // The result would have depth room at most.
-pub fn fits_within(t: &[u64; 512], values: &[u16], base: u16, label: u16, room: u8) -> bool
+pub fn fits_within(t: &[u64; 512], values: &[u16; 192], base: u16, label: u16, room: u8) -> bool
     ensures { λ r. ⌜ r ≡ fitsWithin room (now (t .entry)) (now (values .entry)) base label ⌝ }
 {
     if room == 0 {
@@ -106,139 +100,71 @@ pub fn fits_within(t: &[u64; 512], values: &[u16], base: u16, label: u16, room: 
 pub fn subst(
     t: &mut [u64; 512],
     count: u16,
-    values: &[u16],
+    values: &[u16; 192],
     base: u16,
     label: u16,
     left: u8,
-) -> Subbed
-    ensures { λ r. ⌜ held r (now (t .exit)) ≡ substIn left (now (t .entry)) count (now (values .entry)) base label ⌝ }
+) -> u64
+    ensures { λ r. ⌜ held (subbedIn r) (now (t .exit)) ≡ substIn left (now (t .entry)) count (now (values .entry)) base label ⌝ }
 {
     if left == 0 {
-        return Subbed {
-            got: Got::Deep,
-            count,
-        };
+        return got_deep(count);
     }
     let p = plan_at(t, values, base, label);
     match p {
-        Plan::Keep(l) => Subbed {
-            got: Got::Label(l),
-            count,
-        },
+        Plan::Keep(l) => got_label(l, count),
         Plan::First(a) => {
             let r = subst(t, count, values, base, a, left - 1);
-            with_first(t, label, r)
+            if has_label(r) {
+                with_first(t, label, label_in(r), count_in(r))
+            } else {
+                r
+            }
         }
         Plan::Second(b) => {
             let r = subst(t, count, values, base, b, left - 1);
-            with_second(t, label, r)
+            if has_label(r) {
+                with_second(t, label, label_in(r), count_in(r))
+            } else {
+                r
+            }
         }
         Plan::Both(a, b) => {
             let r = subst(t, count, values, base, a, left - 1);
-            let g = r.got;
-            match g {
-                Got::Label(i) => {
-                    let q = subst(t, r.count, values, base, b, left - 1);
-                    with_both(t, label, i, q)
+            if has_label(r) {
+                let q = subst(t, count_in(r), values, base, b, left - 1);
+                if has_label(q) {
+                    with_both(t, label, label_in(r), label_in(q), count_in(q))
+                } else {
+                    q
                 }
-                Got::Deep => Subbed {
-                    got: Got::Deep,
-                    count: r.count,
-                },
-                Got::Full => Subbed {
-                    got: Got::Full,
-                    count: r.count,
-                },
+            } else {
+                r
             }
         }
     }
 }
 
 // The term at label with another first part.
-fn with_first(t: &mut [u64; 512], label: u16, r: Subbed) -> Subbed
-    ensures { λ s. ⌜ held s (now (t .exit)) ≡ withFirst (now (t .entry)) label r ⌝ }
+fn with_first(t: &mut [u64; 512], label: u16, i: u16, count: u16) -> u64
+    ensures { λ r. ⌜ held (subbedIn r) (now (t .exit)) ≡ withFirst (now (t .entry)) label (subbed (Label i) count) ⌝ }
 {
-    let g = r.got;
-    match g {
-        Got::Label(i) => {
-            let x = term_in(line_at(t, label));
-            entered(t, r.count, x.kind, i, x.b)
-        }
-        Got::Deep => Subbed {
-            got: Got::Deep,
-            count: r.count,
-        },
-        Got::Full => Subbed {
-            got: Got::Full,
-            count: r.count,
-        },
-    }
+    let x = term_in(line_at(t, label));
+    entered(t, count, x.kind, i, x.b)
 }
 
-fn with_second(t: &mut [u64; 512], label: u16, r: Subbed) -> Subbed
-    ensures { λ s. ⌜ held s (now (t .exit)) ≡ withSecond (now (t .entry)) label r ⌝ }
+fn with_second(t: &mut [u64; 512], label: u16, i: u16, count: u16) -> u64
+    ensures { λ r. ⌜ held (subbedIn r) (now (t .exit)) ≡ withSecond (now (t .entry)) label (subbed (Label i) count) ⌝ }
 {
-    let g = r.got;
-    match g {
-        Got::Label(i) => {
-            let x = term_in(line_at(t, label));
-            entered(t, r.count, x.kind, x.a, i)
-        }
-        Got::Deep => Subbed {
-            got: Got::Deep,
-            count: r.count,
-        },
-        Got::Full => Subbed {
-            got: Got::Full,
-            count: r.count,
-        },
-    }
+    let x = term_in(line_at(t, label));
+    entered(t, count, x.kind, x.a, i)
 }
 
-fn with_both(t: &mut [u64; 512], label: u16, first: u16, r: Subbed) -> Subbed
-    ensures { λ s. ⌜ held s (now (t .exit)) ≡ withBoth (now (t .entry)) label first r ⌝ }
+fn with_both(t: &mut [u64; 512], label: u16, first: u16, i: u16, count: u16) -> u64
+    ensures { λ r. ⌜ held (subbedIn r) (now (t .exit)) ≡ withBoth (now (t .entry)) label first (subbed (Label i) count) ⌝ }
 {
-    let g = r.got;
-    match g {
-        Got::Label(i) => {
-            let x = term_in(line_at(t, label));
-            entered(t, r.count, x.kind, first, i)
-        }
-        Got::Deep => Subbed {
-            got: Got::Deep,
-            count: r.count,
-        },
-        Got::Full => Subbed {
-            got: Got::Full,
-            count: r.count,
-        },
-    }
-}
-
-// A term listed, old or new, as a substitution's answer.
-fn entered(t: &mut [u64; 512], count: u16, kind: u8, a: u16, b: u16) -> Subbed
-    ensures { λ r. ⌜ held r (now (t .exit)) ≡ enteredIn (now (t .entry)) count (term kind a b) ⌝ }
-{
-    let r = add_parts(t, count, kind, a, b);
-    let o = r.outcome;
-    match o {
-        Outcome::Listed(i) => Subbed {
-            got: Got::Label(i),
-            count: r.count,
-        },
-        Outcome::New(i) => Subbed {
-            got: Got::Label(i),
-            count: r.count,
-        },
-        Outcome::Deep => Subbed {
-            got: Got::Deep,
-            count: r.count,
-        },
-        Outcome::Full => Subbed {
-            got: Got::Full,
-            count: r.count,
-        },
-    }
+    let x = term_in(line_at(t, label));
+    entered(t, count, x.kind, first, i)
 }
 
 // Both operands of an action, each walked once. Where there is no room it is asked whether one is too deep, since 8
@@ -246,7 +172,7 @@ fn entered(t: &mut [u64; 512], count: u16, kind: u8, a: u16, b: u16) -> Subbed
 pub fn take_operands(
     t: &mut [u64; 512],
     count: u16,
-    values: &[u16],
+    values: &[u16; 192],
     base: u16,
     x: u16,
     y: u16,
@@ -276,7 +202,7 @@ pub fn take_operands(
 }
 
 // Why both operands cannot be entered, where there is no room for both.
-fn deep_or_full(t: &[u64; 512], values: &[u16], base: u16, x: u16, y: u16) -> Taken
+fn deep_or_full(t: &[u64; 512], values: &[u16; 192], base: u16, x: u16, y: u16) -> Taken
     ensures { λ r. ⌜ r ≡ deepOrFull (now (t .entry)) (now (values .entry)) base x y ⌝ }
 {
     if !fits_within(t, values, base, x, 16) {
@@ -289,43 +215,52 @@ fn deep_or_full(t: &[u64; 512], values: &[u16], base: u16, x: u16, y: u16) -> Ta
 }
 
 // Both operands entered one after the other, until one cannot be.
-fn take_both(t: &mut [u64; 512], count: u16, values: &[u16], base: u16, x: u16, y: u16) -> Operands
+fn take_both(
+    t: &mut [u64; 512],
+    count: u16,
+    values: &[u16; 192],
+    base: u16,
+    x: u16,
+    y: u16,
+) -> Operands
     ensures { λ r. ⌜ held r (now (t .exit)) ≡ takeBoth (now (t .entry)) count (now (values .entry)) base x y ⌝ }
 {
     let p = subst(t, count, values, base, x, 16);
-    let g = p.got;
-    match g {
-        Got::Label(i) => {
-            let q = subst(t, p.count, values, base, y, 16);
-            second_operand(i, q)
-        }
-        Got::Deep => Operands {
-            taken: Taken::Deep,
-            count: p.count,
-        },
-        Got::Full => Operands {
-            taken: Taken::Full,
-            count: p.count,
-        },
+    if has_label(p) {
+        let q = subst(t, count_in(p), values, base, y, 16);
+        second_operand(label_in(p), q)
+    } else {
+        not_taken(p)
     }
 }
 
-fn second_operand(first: u16, q: Subbed) -> Operands
-    ensures { λ r. ⌜ r ≡ secondOperand first q ⌝ }
+fn second_operand(first: u16, q: u64) -> Operands
+    ensures { λ r. ⌜ r ≡ secondOperand first (subbedIn q) ⌝ }
 {
-    let g = q.got;
-    match g {
-        Got::Label(i) => Operands {
-            taken: Taken::Labels(first, i),
-            count: q.count,
-        },
-        Got::Deep => Operands {
+    if has_label(q) {
+        Operands {
+            taken: Taken::Labels(first, label_in(q)),
+            count: count_in(q),
+        }
+    } else {
+        not_taken(q)
+    }
+}
+
+// An operand that has no label.
+fn not_taken(q: u64) -> Operands
+    ensures { λ r. ⌜ r ≡ notTaken q ⌝ }
+{
+    let count = count_in(q);
+    if is_deep(q) {
+        Operands {
             taken: Taken::Deep,
-            count: q.count,
-        },
-        Got::Full => Operands {
+            count,
+        }
+    } else {
+        Operands {
             taken: Taken::Full,
-            count: q.count,
-        },
+            count,
+        }
     }
 }

@@ -130,8 +130,8 @@ pub fn add(t: &mut [u64; 512], count: u16, x: Term) -> Added
     add_parts(t, count, x.kind, x.a, x.b)
 }
 
-// The same of a term's fields: a struct would go through memory, and a substitution adds term after term.
-pub fn add_parts(t: &mut [u64; 512], count: u16, kind: u8, a: u16, b: u16) -> Added
+// The same of a term's fields: a struct would go through memory.
+fn add_parts(t: &mut [u64; 512], count: u16, kind: u8, a: u16, b: u16) -> Added
     ensures { λ r. ⌜ held r (now (t .exit)) ≡ addTo (now (t .entry)) count (term kind a b) ⌝ }
 {
     let g = grade_parts(t, kind, a, b);

@@ -134,7 +134,7 @@ pub fn after_parts(x: Term) -> u16
     }
 }
 
-fn later(a: u16, b: u16) -> u16
+pub fn later(a: u16, b: u16) -> u16
     ensures { λ r. ⌜ r ≡ pick (ltb a b) b a ⌝ }
 {
     if a < b { b } else { a }

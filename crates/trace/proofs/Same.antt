@@ -8,44 +8,28 @@ use native.Mathlib.Nat.{sub-zero}
 use native.Mathlib.Omega.{arith}
 use lib.ListN.{length}
 use lib.Dec.{eqb}
-use borrow.Author.Tests.{lt-ltb, eq-eqb, ne-eqb}
+use borrow.Author.Tests.{eq-eqb, ne-eqb}
 use Rattle.terms.specs.Base.{pick, also}
 use Rattle.model.specs.Fields.{either}
+use Rattle.model.specs.First.{firstFrom}
 use Rattle.model.specs.declared.records.Claim.{Claim}
 use Rattle.state.specs.Control.{oneMore}
+use Rattle.state.proofs.Frame.{one-more}
 use Rattle.rules.specs.Event.{numberAt}
 use Rattle.rules.specs.declared.event.Happening.{Happening}
 use Rattle.machine.specs.Claim.{firstBreak}
 use Rattle.machine.specs.Recorded.{Holds, ShortPath}
-use Rattle.machine.specs.Judge.{anyFrom, firstFrom, acceptsAt, makesAt, followAt, followFrom, followsOn, fulfilsAt, walkedOn, firstAccept, firstBreakOn}
+use Rattle.machine.specs.Judge.{anyFrom, acceptsAt, makesAt, followAt, followFrom, followsOn, fulfilsAt, walkedOn, firstAccept, firstBreakOn}
 use Rattle.machine.proofs.Loops.{any-more, any-end, follow-more, follow-end}
 use Rattle.machine.proofs.Judged.{first-break-is}
 use Rattle.trace.specs.Event.{eventAt, acceptsIn, makesIn, followIn}
 use Rattle.trace.specs.Judge.{judging, judgeStep, judgeFrom, followed}
-use Rattle.trace.specs.Verdict.{verdict, starting, wants, followerOf, verdictStep, verdictFrom, judged, brokenBy}
+use Rattle.trace.specs.Verdict.{verdict, starting, wants, followerOf, verdictStep, verdictFrom, judged, breakIn}
 use Rattle.trace.specs.Table.{standing}
 use Rattle.trace.specs.declared.event.Event.{Event}
 use Rattle.trace.specs.declared.judge.Judge.{Judge}
 use Rattle.trace.specs.declared.verdict.Verdict.{Verdict}
 use Rattle.trace.proofs.Stood.{stands-at}
-
--- one event, one record
-module _ (l : List ℕ) (i : ℕ) where
-  accepts-same : (v : ℕ) → acceptsIn (eventAt l i) v ≡ acceptsAt l i v
-  unfolding acceptsIn acceptsAt eventAt
-  accepts-same v = refl
-
-  makes-same : (c : Claim) → makesIn (eventAt l i) c ≡ makesAt l i c
-  unfolding makesIn makesAt eventAt
-  makes-same c = refl
-
-  follow-same : (j : ℕ) (c : Claim) (k : ℕ) → followIn (eventAt l i) j c k ≡ followAt l i j c k
-  unfolding followIn followAt eventAt
-  follow-same j c k = refl
-
-  thread-same : eventAt l i .thread ≡ numberAt l i 8
-  unfolding eventAt
-  thread-same = refl
 
 -- the first that passes is not before the start
 first-least : (p : ℕ → Bool) (n i : ℕ) → i ≤ firstFrom n i p
@@ -85,12 +69,12 @@ module _ (l : List ℕ) (c : Claim) (n j : ℕ) where
 
   -- an event that closes the judging, and one that doesn't
   step-closes : (i k : ℕ) → acceptsAt l i (c .program) ≡ true → judgeStep (judging c n j k false) (eventAt l i) ≡ judging c n j k true
-  unfolding judgeStep
-  step-closes i k e = rw (accepts-same l i (c .program), e)
+  unfolding judgeStep eventAt acceptsIn acceptsAt
+  step-closes i k e = rw e
 
   step-follows : (i k : ℕ) → acceptsAt l i (c .program) ≡ false → judgeStep (judging c n j k false) (eventAt l i) ≡ judging c n j (followAt l i j c k) false
-  unfolding judgeStep
-  step-follows i k e = rw (accepts-same l i (c .program), e, follow-same l i j c k)
+  unfolding judgeStep eventAt acceptsIn acceptsAt followIn followAt
+  step-follows i k e = rw e
 
   from-step : (t i k : ℕ) (r : Judge) → i < 4096 → judgeStep (judging c n j k false) (eventAt l i) ≡ r
       → judgeFrom (suc t) i (standing l) (judging c n j k false) ≡ judgeFrom t (i + 1) (standing l) r
@@ -135,8 +119,8 @@ module _ (l : List ℕ) (c : Claim) (n : ℕ) (small : n ≤ 4096) where
   accepted-stays (suc t) i s w = accepted-stays t (i + 1) s w
 
   turn-accepts : (i : ℕ) (w : Bool) → acceptsAt l i (c .program) ≡ true → turned (verdict c n i false w) (eventAt l i) ≡ verdict c n i true w
-  unfolding verdictStep
-  turn-accepts i w e = rw (accepts-same l i (c .program), e)
+  unfolding verdictStep eventAt acceptsIn acceptsAt
+  turn-accepts i w e = rw e
 
   -- a thread that event i made
   follower-far : (i : ℕ) (e : Event) → followed (standing l) (judging c n (numberAt l i 8) 0 false) .at ≡ followFrom stop 0 l (numberAt l i 8) c 0
@@ -144,9 +128,9 @@ module _ (l : List ℕ) (c : Claim) (n : ℕ) (small : n ≤ 4096) where
 
   turn-walks : (i : ℕ) (w : Bool) → acceptsAt l i (c .program) ≡ false
       → turned (verdict c n i false w) (eventAt l i) ≡ verdict c n (oneMore i) false (either w (ful i))
-  unfolding verdictStep followerOf wants fulfilsAt followsOn
-  turn-walks i true e = rw (accepts-same l i (c .program), e)
-  turn-walks i false e = rw (accepts-same l i (c .program), e, makes-same l i c, thread-same l i) (by (makesAt l i c))
+  unfolding verdictStep followerOf wants fulfilsAt followsOn eventAt acceptsIn acceptsAt makesIn makesAt
+  turn-walks i true e = rw e
+  turn-walks i false e = rw e (by (makesAt l i c))
     where
       by : (b : Bool)
           → pick b (verdict c n (oneMore i) false (eqb (followed (standing l) (pick b (judging c n (numberAt l i 8) 0 false) (judging c 0 0 0 true)) .at)
@@ -160,27 +144,23 @@ module _ (l : List ℕ) (c : Claim) (n : ℕ) (small : n ≤ 4096) where
   unfolding verdictFrom
   from-turn t i w r h e = ap (verdictFrom t (i + 1) (standing l)) (ap (turned (verdict c n i false w)) (stands-at l i h) ∙ e)
 
-  one-more : (i : ℕ) → i < 65535 → oneMore i ≡ i + 1
-  unfolding oneMore
-  one-more i h = rw (lt-ltb i 65535 h)
-
   -- the number that a verdict gives, f the first accept and w that the path was walked before it
   abbrev number : ℕ → Bool → ℕ
   number f w = pick (eqb f n) 0 (pick w 0 (oneMore f))
 
   broken-is : (t i : ℕ) (w : Bool) → i + t ≡ n
-      → brokenBy (verdictFrom t i (standing l) (verdict c n i false w)) ≡ number (firstFrom t i accs) (either w (anyFrom (firstFrom t i accs - i) i ful))
-  unfolding brokenBy firstFrom verdictFrom
+      → breakIn (verdictFrom t i (standing l) (verdict c n i false w)) ≡ number (firstFrom t i accs) (either w (anyFrom (firstFrom t i accs - i) i ful))
+  unfolding breakIn firstFrom verdictFrom
   broken-is zero i w h = rw (eq-eqb i n (omega arith))
   broken-is (suc t) i w h = by (acceptsAt l i (c .program)) refl (broken-is t (i + 1) (either w (ful i)) (omega arith))
     where
       by : (b : Bool) → acceptsAt l i (c .program) ≡ b
-          → brokenBy (verdictFrom t (i + 1) (standing l) (verdict c n (i + 1) false (either w (ful i))))
+          → breakIn (verdictFrom t (i + 1) (standing l) (verdict c n (i + 1) false (either w (ful i))))
           ≡ number (firstFrom t (i + 1) accs) (either (either w (ful i)) (anyFrom (firstFrom t (i + 1) accs - (i + 1)) (i + 1) ful))
-          → brokenBy (verdictFrom (suc t) i (standing l) (verdict c n i false w)) ≡ number (firstFrom (suc t) i accs) (either w (anyFrom (firstFrom
+          → breakIn (verdictFrom (suc t) i (standing l) (verdict c n i false w)) ≡ number (firstFrom (suc t) i accs) (either w (anyFrom (firstFrom
           (suc t) i accs - i) i ful))
       by true e ih =
-          ap brokenBy (from-turn t i w (verdict c n i true w) (omega arith) (turn-accepts i w e) ∙ accepted-stays t (i + 1) i w)
+          ap breakIn (from-turn t i w (verdict c n i true w) (omega arith) (turn-accepts i w e) ∙ accepted-stays t (i + 1) i w)
           ∙ sym (ap (λ (f : ℕ). number f (either w (anyFrom (f - i) i ful))) (first-hit accs t i e) ∙ at-once)
         where
           at-once : number i (either w (anyFrom (i - i) i ful)) ≡ pick w 0 (oneMore i)
@@ -192,15 +172,15 @@ module _ (l : List ℕ) (c : Claim) (n : ℕ) (small : n ≤ 4096) where
           turn-walks i w e ∙ ap (λ (x : ℕ). verdict c n x false (either w (ful i))) (one-more i (omega arith)) in
           let more : either w (anyFrom (f - i) i ful) ≡ either (either w (ful i)) (anyFrom (f - (i + 1)) (i + 1) ful) =
           ap (either w) (any-more f i ful (omega arith)) ∙ sym (either-both w (ful i) (anyFrom (f - (i + 1)) (i + 1) ful)) in
-          ap brokenBy (from-turn t i w (verdict c n (i + 1) false (either w (ful i))) (omega arith) walks) ∙ ih
+          ap breakIn (from-turn t i w (verdict c n (i + 1) false (either w (ful i))) (omega arith) walks) ∙ ih
           ∙ sym (ap (λ (x : ℕ). number x (either w (anyFrom (x - i) i ful))) (first-miss accs t i e) ∙ ap (number f) more)
 
   -- judging over the structs is judging over the flat records
-  pub judged-same : brokenBy (judged (standing l) (starting n c)) ≡ firstBreakOn l n c
+  pub judged-same : breakIn (judged (standing l) (starting n c)) ≡ firstBreakOn l n c
   unfolding starting firstBreakOn firstAccept walkedOn
   judged-same = broken-is n 0 false (omega arith) ∙ ap (λ (x : ℕ). number stop (anyFrom x 0 ful)) (sub-zero stop)
 
 -- and so the claim's definition over the events
 pub judged-is : (l : List ℕ) (c : Claim) (s : ShortPath c) {hs : List Happening} → Holds l hs → length hs ≤ 4096
-    → brokenBy (judged (standing l) (starting (length hs) c)) ≡ firstBreak c hs
+    → breakIn (judged (standing l) (starting (length hs) c)) ≡ firstBreak c hs
 judged-is l c s {hs} r h = judged-same l c (length hs) h ∙ first-break-is l c s r (omega arith)

@@ -1,7 +1,7 @@
 -- The table of structs stands record for record: one turn of its loop, and what is read at a place.
 use Prim.Native.Nat.{ℕ, zero, suc, _+_, _-_, _<_, _≤_}
 use mathlib.Core.List.{List, [], _∷_, _++_, append-nil, append-assoc}
-use mathlib.Core.Path.{_≡_, sym, _∙_, ap}
+use mathlib.Core.Path.{_≡_, refl, sym, _∙_, ap}
 use native.Mathlib.Numerals.{add-one, sub-one}
 use native.Mathlib.Nat.{sub-add-eq, sub-eq-zero-of-le}
 use native.Mathlib.Omega.{arith}
@@ -21,6 +21,10 @@ events-step zero i l h = absurd (omega arith)
 events-step (suc n) i l h = rw sub-one
 
 -- the loop: those that stand, and those that are still to come
+pub stood-start : (l : List ℕ) (es : List Event) → standing l ≡ take 0 es ++ eventsFrom (4096 - 0) 0 l
+unfolding standing
+stood-start l es = refl
+
 pub stood-more : (n i : ℕ) (l : List ℕ) (es : List Event) → i < n → i < length es
     → take i es ++ eventsFrom (n - i) i l ≡ take (i + 1) (set es i (eventAt l i)) ++ eventsFrom (n - (i + 1)) (i + 1) l
 stood-more n i l es h g = rw (events-step (n - i) i l (omega arith), sub-add-eq) (sym (put-next es i (eventAt l i) (eventsFrom (n - i - 1) (i + 1) l) g))

@@ -1,13 +1,10 @@
--- The record of an event as a struct, and what one event says of a claim: machine's definitions over flat records, a
--- number at a time, with the number under its name.
-use Prim.Native.Nat.{ℕ, _+_, _%_}
-use mathlib.Core.Bool.{Bool, true, false}
+-- The record of an event as a struct, and what one event says of a claim: what machine says of its numbers.
+use Prim.Native.Nat.{ℕ}
+use mathlib.Core.Bool.{Bool}
 use mathlib.Core.List.{List}
-use lib.Dec.{eqb, leb}
-use Rattle.terms.specs.Base.{pick, also}
 use Rattle.model.specs.declared.records.Claim.{Claim}
 use Rattle.rules.specs.Event.{numberAt}
-use Rattle.machine.specs.Judge.{makingOp, pathAt}
+use Rattle.machine.specs.Judge.{acceptsBy, makesBy, followBy}
 use Rattle.trace.specs.declared.event.Event.{Event}
 
 abbrev pub event : ℕ → ℕ → ℕ → ℕ → ℕ → ℕ → ℕ → ℕ → ℕ → ℕ → ℕ → ℕ → Event
@@ -37,22 +34,12 @@ eventAt l i =
 
 -- the event has an accept of program v
 unfoldable pub acceptsIn : Event → ℕ → Bool
-acceptsIn e v =
-    pick (eqb (e .endings) 0) false
-    (pick (eqb (e .first) v) true
-    (pick (eqb (e .endings) 1) false
-    (eqb (e .second) v)))
+acceptsIn e v = acceptsBy (e .endings) (e .first) (e .second) v
 
 -- it makes a thread for the claim
 unfoldable pub makesIn : Event → Claim → Bool
-makesIn e c = also (eqb (e .op) (makingOp (c .kind))) (eqb (e .machine) (c .machine))
+makesIn e c = makesBy (e .op) (e .machine) c
 
--- how far along the path thread j is after it, k before it: a jump (19) to the next program of the path, to another (255:
--- it has left the path), or no jump
+-- how far along the path thread j is after it, k before it
 unfoldable pub followIn : Event → ℕ → Claim → ℕ → ℕ
-followIn e j c k =
-    pick (leb (c .length) k) k
-    (pick (eqb (e .op) 19)
-    (pick (eqb (e .serial) j)
-    (pick (eqb (e .program) (pathAt c k)) (k % 255 + 1) 255)
-    k) k)
+followIn e j c k = followBy (e .op) (e .serial) (e .program) j c k

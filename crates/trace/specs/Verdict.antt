@@ -48,5 +48,5 @@ abbrev pub judged : List Event → Verdict → Verdict
 judged es k = verdictFrom (k .upto) 0 es k
 
 -- the first accept breaks the claim, unless the path was walked; counted from 1, 0 where none breaks it
-unfoldable pub brokenBy : Verdict → ℕ
-brokenBy k = pick (not (k .accepted)) 0 (pick (k .walked) 0 (oneMore (k .seen)))
+unfoldable pub breakIn : Verdict → ℕ
+breakIn k = pick (not (k .accepted)) 0 (pick (k .walked) 0 (oneMore (k .seen)))

@@ -1,6 +1,5 @@
 // The claim judged over the events of a run, which stand as structs in a lent table.
 use crate::event::Event;
-use crate::event::event_from;
 use crate::verdict::broken;
 use crate::verdict::judge_table;
 use crate::verdict::start;
@@ -8,7 +7,6 @@ use machine::claim::first_break;
 use model::records::Claim;
 ghost use mathlib.Core.Path.{_≡_};
 ghost use Rattle.machine.specs.Judge.{firstBreakOn};
-ghost use Rattle.trace.specs.Table.{standing};
 
 // The first of n records that breaks the claim, counted from 1; 0 where none does. The records stand up as structs and
 // are judged there; more than the table has room for are judged as they lie.
@@ -18,21 +16,6 @@ pub fn judge(records: &[u16], n: u16, c: Claim) -> u16
     if Event::ROOM < n {
         return first_break(records, n, c);
     }
-    let es = stand(records);
-    let k = judge_table(es, start(n, c));
+    let k = judge_table(records, start(n, c));
     broken(k)
-}
-
-// The first 4,096 records.
-fn stand(records: &[u16]) -> [Event; 4096]
-    ensures { λ r. ⌜ r ≡ standing (now (records .entry)) ⌝ }
-{
-    let none = Event::none();
-    let mut es = [none; 4096];
-    let mut i = 0;
-    while i < 4096 {
-        es[i] = event_from(records, i as u16);
-        i += 1;
-    }
-    es
 }

@@ -1,6 +1,7 @@
 // The record of an event as a struct, and what one event says of a claim.
-use machine::claim::making_op;
-use machine::claim::path_at;
+use machine::judge::accepts_by;
+use machine::judge::follow_by;
+use machine::judge::makes_by;
 use model::records::Claim;
 use rules::event::Record;
 use rules::event::number_at;
@@ -68,51 +69,23 @@ pub fn event_from(records: &[u16], i: u16) -> Event
     }
 }
 
-// The event has an accept of a program: the ending of a thread that was in it.
+// The event has an accept of a program.
 pub fn accepts(e: Event, program: u8) -> bool
     ensures { λ r. ⌜ r ≡ acceptsIn e program ⌝ }
 {
-    if e.endings == 0 {
-        return false;
-    }
-    let p = program as u16;
-    if e.first == p {
-        return true;
-    }
-    if e.endings == 1 {
-        return false;
-    }
-    e.second == p
+    accepts_by(e.endings, e.first, e.second, program)
 }
 
-// A reset (kind 1: a late launch) of the claim's machine.
+// It made a thread for the claim.
 pub fn makes(e: Event, c: Claim) -> bool
     ensures { λ r. ⌜ r ≡ makesIn e c ⌝ }
 {
-    let making = making_op(c.kind);
-    if e.op != making {
-        return false;
-    }
-    e.machine == c.machine as u16
+    makes_by(e.op, e.machine, c)
 }
 
-// How far along the path a thread is after the event: a jump to the next program of the path, to another, or no jump.
+// How far along the path a thread is after it.
 pub fn follow(e: Event, serial: u16, c: Claim, at: u8) -> u8
     ensures { λ r. ⌜ r ≡ followIn e serial c at ⌝ }
 {
-    if c.length <= at {
-        return at;
-    }
-    if e.op != 19 {
-        return at;
-    }
-    if e.serial != serial {
-        return at;
-    }
-    let next = path_at(c, at) as u16;
-    if e.program == next {
-        at % 255 + 1
-    } else {
-        Claim::LEFT
-    }
+    follow_by(e.op, e.serial, e.program, serial, c, at)
 }

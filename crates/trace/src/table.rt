@@ -1,8 +1,16 @@
-// A lent table of events: one is read, one is stored.
+// A table of events: it is made, and where it is lent one is read, one is stored.
 use crate::event::Event;
 ghost use mathlib.Core.Path.{_≡_};
-ghost use lib.ListN.{getD, set};
+ghost use lib.ListN.{getD, set, replicate};
 ghost use Rattle.trace.specs.Event.{noEvent};
+
+// Room for events, all zeros.
+pub fn blank() -> [Event; 4096]
+    ensures { λ r. ⌜ r ≡ replicate 4096 noEvent ⌝ }
+{
+    let none = Event::none();
+    [none; 4096]
+}
 
 // The event at a place, and the one of all zeros where there is none.
 pub fn event_at(es: &[Event], i: usize) -> Event

@@ -1,14 +1,18 @@
 // The claim judged over the events of a lent table.
 use crate::event::Event;
 use crate::event::accepts;
+use crate::event::event_from;
 use crate::event::makes;
 use crate::judge::Judge;
 use crate::judge::judge_all;
+use crate::table::blank;
 use crate::table::event_at;
+use crate::table::put_event;
 use model::records::Claim;
 use state::control::one_more;
 ghost use mathlib.Core.Path.{_≡_};
-ghost use Rattle.trace.specs.Verdict.{starting, wants, followerOf, verdictStep, judged, brokenBy};
+ghost use Rattle.trace.specs.Table.{standing};
+ghost use Rattle.trace.specs.Verdict.{starting, wants, followerOf, verdictStep, judged, breakIn};
 
 // What is known after the events seen so far: an accept of the claim's program was met, some thread made for the claim
 // has walked the path.
@@ -117,16 +121,23 @@ pub fn judge_claim(es: &[Event], k0: Verdict) -> Verdict
     k
 }
 
-// A whole table, lent for the judging.
-pub fn judge_table(es: [Event; 4096], k: Verdict) -> Verdict
-    ensures { λ r. ⌜ r ≡ judged es k ⌝ }
+// The records stand up as structs in a table of this function's own: it is lent to store each of them, and then to judge.
+pub fn judge_table(records: &[u16], k: Verdict) -> Verdict
+    ensures { λ r. ⌜ r ≡ judged (standing (now (records .entry))) k ⌝ }
 {
+    let mut es = blank();
+    let mut i = 0;
+    while i < Event::ROOM {
+        let e = event_from(records, i);
+        put_event(&mut es, i as usize, e);
+        i += 1;
+    }
     judge_claim(&es, k)
 }
 
 // The event that breaks the claim, counted from 1; 0 where none does: the first accept, unless the path was walked.
 pub fn broken(k: Verdict) -> u16
-    ensures { λ r. ⌜ r ≡ brokenBy k ⌝ }
+    ensures { λ r. ⌜ r ≡ breakIn k ⌝ }
 {
     if !k.accepted {
         return 0;

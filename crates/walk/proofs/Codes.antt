@@ -99,12 +99,3 @@ from-at {k} s (List·Memᴰ·head {x = x} {xs = xs} e) =
 from-at {k} s (List·Memᴰ·tail {x = x} {xs = xs} m) =
     let l : x < k = all-at (λ z. x < z) m (s .0) in
     rw (lt-ltb x k l, lt-ltb x (suc k) (omega arith)) (from-at (s .1) m)
-
--- numbers with no code between them name the same codes
-pub from-gap : (k j : ℕ) (xs : List ℕ) → k ≤ j → All (λ x. (x < k) ⊎ (j ≤ x)) xs → from k xs ≡ from j xs
-from-gap k j [] l a = refl
-from-gap k j (x ∷ xs) l a = go (a .0) (from-gap k j xs l (a .1))
-  where
-    go : (x < k) ⊎ (j ≤ x) → from k xs ≡ from j xs → from k (x ∷ xs) ≡ from j (x ∷ xs)
-    go (inl h) e = rw (lt-ltb x k h, lt-ltb x j (omega arith)) e
-    go (inr h) e = rw (le-ltb x k (omega arith), le-ltb x j h)

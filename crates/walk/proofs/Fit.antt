@@ -23,7 +23,7 @@ pub record Fit (M : Machine) (n : ℕ) (p : Place) : Type 0 where
   pub short : length (p .up) < n
   pub code : either (among (p .next) (M .codes)) (eqb (p .next) (M .none)) ≡ true
 
-both-true : (a b : Bool) → also a b ≡ true → (a ≡ true) × (b ≡ true)
+pub both-true : (a b : Bool) → also a b ≡ true → (a ≡ true) × (b ≡ true)
 both-true true b e = (refl, e)
 both-true false b e = absurd (let z : _≡_ {A = ℕ} 0 1 = cc in omega arith)
 

@@ -1,55 +1,26 @@
--- Laws of the walk over an array for whoever writes it as a loop: refused codes passed together, and that the array stays 0 behind
--- the schedule.
-use Prim.Native.Nat.{ℕ, zero, suc, _+_, _-_, _≤_, _<_}
-use mathlib.Core.Path.{_≡_, refl, ap, _∙_}
+-- Laws of the walk over an array for whoever writes it as a loop: the array stays 0 behind the schedule.
+use Prim.Native.Nat.{ℕ, zero, suc, _≤_}
+use mathlib.Core.Path.{_≡_, refl, _∙_}
 use mathlib.Core.Bool.{Bool, true, false}
-use mathlib.Core.List.{List, [], _∷_, _++_, List·Memᴰ·head}
+use mathlib.Core.List.{List, [], _∷_}
 use native.Mathlib.Omega.{arith}
 use lib.ListN.{length, getD, set, List·getD-eq-default, length-set}
 use lib.Seq.{getD-set-same, getD-set-other}
 use lib.Dec.{ltb, eqb}
-use borrow.Author.Tests.{ltb-true, ltb-false, ne-eqb, eqb-true, eqb-false}
-use Rattle.walk.specs.Base.{All, pick}
-use Rattle.walk.specs.Machine.{Machine, Coded, Outcome, refused, tooBig, goes, breaks}
+use borrow.Author.Tests.{ltb-true, ltb-false, eqb-true, eqb-false}
+use Rattle.walk.specs.Base.{pick}
+use Rattle.walk.specs.Machine.{Machine, Outcome, refused, tooBig, goes, breaks}
 use Rattle.walk.specs.Reply.{stop, end, Reply}
 use Rattle.walk.specs.Trail.{Mark, plain, sized, bad, markOf}
 use Rattle.walk.specs.Place.{from, at}
 use Rattle.walk.specs.Walk.{reply}
 use Rattle.walk.specs.Array.{Spot, stackOf, wordOf, settledIn, afterIn, turnIn, walkIn, searchIn}
-use Rattle.walk.proofs.Lists.{all-at}
-use Rattle.walk.proofs.Codes.{from-head, from-mem}
 
 -- the first of the codes left is the next one
 pub settled-here : (M : Machine) (cs : List ℕ) (j k : ℕ) (ks : List ℕ) → settledIn M cs j (k ∷ ks) ≡ record { codes = cs; len = j; next = k }
 unfolding settledIn
 settled-here M cs zero k ks = refl
 settled-here M cs (suc j) k ks = refl
-
--- a turn at a code that is refused
-turn-refused : (M : Machine) (n b : ℕ) (q : Spot) (t z : ℕ) → eqb (q .next) (M .none) ≡ false → M .try (at M (stackOf (q .codes) (q .len))) (q .next) ≡ refused →
-    walkIn M (suc b) n q t z ≡ walkIn M b n (settledIn M (q .codes) (q .len) (from (suc (q .next)) (M .codes))) (suc t) z
-unfolding walkIn afterIn
-turn-refused M n b q t z h e = rw (h, e)
-
--- a piece of the codes left, all refused, is passed together
-pub skip-in : (M : Machine) → Coded M → (n : ℕ) (cs : List ℕ) (j : ℕ) (seg ks : List ℕ) (i b t z : ℕ) → from i (M .codes) ≡ seg ++ ks →
-    All (λ k. M .try (at M (stackOf cs j)) k ≡ refused) seg → length seg ≤ b →
-    walkIn M b n (settledIn M cs j (seg ++ ks)) t z ≡ walkIn M (b - length seg) n (settledIn M cs j ks) (t + length seg) z
-skip-in M C n cs j [] ks i b t z e a l =
-    let x : b - 0 ≡ b = omega arith in
-    let y : t + 0 ≡ t = omega arith in
-    rw (x, y)
-skip-in M C n cs j (k ∷ seg) ks i zero t z e a l = absurd (omega arith)
-skip-in M C n cs j (k ∷ seg) ks i (suc b) t z e a l =
-    let h : (from k (M .codes) ≡ k ∷ (seg ++ ks)) × (from (suc k) (M .codes) ≡ seg ++ ks) = from-head (M .codes) (C .rise) i k (seg ++ ks) e in
-    let m : k < M .none = all-at (λ x. x < M .none) (from-mem i (M .codes) (rw e (List·Memᴰ·head refl))) (C .below) in
-    let x : suc b - suc (length seg) ≡ b - length seg = omega arith in
-    let y : t + suc (length seg) ≡ suc t + length seg = omega arith in
-    ap (λ (q : Spot). walkIn M (suc b) n q t z) (settled-here M cs j k (seg ++ ks)) ∙
-    turn-refused M n b (record { codes = cs; len = j; next = k }) t z (ne-eqb k (M .none) (λ q. omega arith)) (a .0) ∙
-    ap (λ (r : List ℕ). walkIn M b n (settledIn M cs j r) (suc t) z) (h .1) ∙
-    skip-in M C n cs j seg ks (suc k) b (suc t) z (h .1) (a .1) (omega arith) ∙
-    rw (x, y)
 
 -- the array is 0 from j on
 abbrev pub ZeroPast : List ℕ → ℕ → Type 0

@@ -5,8 +5,9 @@ use mathlib.Core.Path.{_≡_}
 use native.Mathlib.Nat.{sub-zero}
 use native.Mathlib.Omega.{arith}
 use borrow.Author.Needs.{needs}
-use Rattle.machine.specs.Judge.{acceptsAt, firstFrom, firstAccept}
-use Rattle.machine.proofs.Loops.{first-more, first-end}
+use Rattle.model.specs.First.{firstFrom}
+use Rattle.model.proofs.First.{first-more, first-end}
+use Rattle.machine.specs.Judge.{acceptsAt, firstAccept}
 use Rattle.machine.proofs.claim.first_accept.Statement.{statement}
 use Rattle.machine.proofs.claim.first_accept.Tie as tie
 

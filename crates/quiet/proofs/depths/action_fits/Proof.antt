@@ -18,14 +18,14 @@ fits-within-requires-2 c κs = search needs
 returns-2 : tie.Need-returns-2
 unfolding actionFits
 returns-2 c =
-    let x = c .before .before .before in
+    let x = c .before .before in
     rw (← (x .before .fits-within .ensures), x .if1 .left, ← (c .before .fits-within2 .ensures), c .if2 .taken)
 
 returns-3 : tie.Need-returns-3
 unfolding actionFits
 returns-3 c =
     let y = c .before .before in
-    let x = y .before .before .before in
+    let x = y .before .before in
     rw (← (x .before .fits-within .ensures), x .if1 .left, ← (y .before .fits-within2 .ensures), y .if2 .left, ne-eqb _ _ (c .if3 .taken))
 
 value-at-requires : tie.Need-value-at-requires
@@ -38,7 +38,7 @@ returns-4 : tie.Need-returns-4
 unfolding actionFits
 returns-4 c =
     let y = c .before .before .before .before in
-    let x = y .before .before .before in
+    let x = y .before .before in
     rw (
       ← (x .before .fits-within .ensures),
       x .if1 .left,

@@ -3,11 +3,13 @@
 use Prim.Native.Nat.{_-_, _≤_}
 use mathlib.Core.Path.{_≡_}
 use native.Mathlib.Nat.{sub-zero}
+use native.Mathlib.Omega.{arith}
 use borrow.Author.Needs.{needs}
 use Rattle.terms.specs.Line.{termAt}
-use Rattle.reader.specs.SecondReading.{firstFrom, firstBadCode}
+use Rattle.model.specs.First.{firstFrom}
+use Rattle.model.proofs.First.{first-more, first-end}
+use Rattle.reader.specs.SecondReading.{firstBadCode}
 use Rattle.reader.specs.ELine.{codePast}
-use Rattle.reader.proofs.Laws.{first-more, first-end}
 use Rattle.reader.proofs.second.first_bad_code.Statement.{statement}
 use Rattle.reader.proofs.second.first_bad_code.Tie as tie
 
@@ -56,7 +58,10 @@ loop-again c = let p3 = c .before .before .before in let l = p3 .before .loop in
 )
 
 returns-2 : tie.Need-returns-2 Inv-loop μ-loop
-returns-2 c = let l = c .before .loop in rw (l .inv .0, first-end _ (l .i) _ (c .loop-test .left) (l .inv .1))
+returns-2 c =
+    let l = c .before .loop in
+    let e : l .i ≡ c .before .before .args .count = omega (arith, l .inv .1, c .loop-test .left) in
+    rw (l .inv .0, first-end _ (l .i) _ (c .loop-test .left), e)
 
 pub first-bad-code-spec : {M : Type 1} → statement M
 first-bad-code-spec =

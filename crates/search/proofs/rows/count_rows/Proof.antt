@@ -1,31 +1,25 @@
 -- `search::rows::count_rows` meets its contract: the loop keeps the rows that are put already and those still to come. The
 -- measure is the rows left.
-use Prim.Native.Nat.{_+_, _-_, _≤_}
-use mathlib.Core.List.{_++_, map}
-use mathlib.Core.Path.{_≡_, refl, sym, _∙_}
-use native.Mathlib.Omega.{arith}
-use lib.ListN.{length, take, drop, length-set}
+use Prim.Native.Nat.{_-_}
+use mathlib.Core.Path.{_≡_, refl}
+use lib.ListN.{length, length-set}
 use borrow.Author.Needs.{needs}
 use Rattle.state.specs.declared.control.Control.{Control}
-use Rattle.search.specs.Rows.{countRows, countsAt}
+use Rattle.search.specs.Rows.{countsOn, countRows, countsAt}
 use Rattle.search.specs.Enter.{noControl}
-use Rattle.search.proofs.Stacked.{rows-more, rows-end, length-stack}
+use Rattle.search.proofs.Stacked.{length-stack, Spread, spread-next, spread-all, counts-long, counts-put}
 use Rattle.search.proofs.rows.count_rows.Statement.{statement}
 use Rattle.search.proofs.rows.count_rows.Tie as tie
 
 abbrev Inv-loop : tie.InvT-loop
 Inv-loop t stack rows₀ i₀ rows i =
-    (countRows t stack ≡ take i rows ++ map (λ (s : Control). countsAt t s) (drop i stack)) × (length rows ≡ 25) × (length stack ≡ 25) × (i ≤ 25)
+    (length rows ≡ 25) × Spread (λ (s : Control). countsAt t s) stack (countsOn rows) i
 
 abbrev μ-loop : tie.MeasureT-loop
 μ-loop t stack rows₀ i₀ rows i = 25 - i
 
-no-counts-requires : tie.Need-no-counts-requires Inv-loop μ-loop
-no-counts-requires c κs = search needs
-
 loop-holds : tie.Need-loop-holds Inv-loop μ-loop
-unfolding countRows
-loop-holds c = (refl, search needs, search (needs, length-stack), search needs)
+loop-holds c = (search needs, (refl, rw counts-long (search needs), search (needs, length-stack), search needs))
 
 mul-s : tie.Need-mul-s Inv-loop μ-loop
 mul-s c = search needs
@@ -35,6 +29,9 @@ array-copy-out-s c = search needs
 
 counts-in-requires : tie.Need-counts-in-requires Inv-loop μ-loop
 counts-in-requires c κs = search needs
+
+counts-row-requires : tie.Need-counts-row-requires Inv-loop μ-loop
+counts-row-requires c κs = search needs
 
 mul-rows : tie.Need-mul-rows Inv-loop μ-loop
 mul-rows c = search needs
@@ -49,20 +46,21 @@ loop-less : tie.Need-loop-less Inv-loop μ-loop
 loop-less c = search needs
 
 loop-again : tie.Need-loop-again Inv-loop μ-loop
-loop-again c = let p4 = c .before .before .before .before in let l = p4 .loop in let a = p4 .before .before .args in (
-  rw (
-    l .inv .0,
-    rows-more (λ (s : Control). countsAt (a .t .now) s) noControl (a .t2) (l .rows) (l .i) (omega arith) (omega arith),
-    ← (c .counts-in .ensures),
-  ),
-  simp length-set (search needs),
-  search needs,
-  search needs,
-)
+loop-again c =
+    let p5 = c .before .before .before .before .before in
+    let l = p5 .loop in
+    let a = p5 .before .args in (
+      simp length-set (search needs),
+      rw (counts-put _ _ (c .counts-row .ensures) (l .i) (l .rows), c .before .counts-in .ensures)
+          (spread-next (λ (s : Control). countsAt (a .t .now) s) (a .t2) noControl (countsOn (l .rows)) (l .i) (l .inv .1) (search needs)),
+    )
 
 returns : tie.Need-returns Inv-loop μ-loop
-returns c = let l = c .before .loop in let a = c .before .before .before .args in
-    sym (l .inv .0 ∙ rows-end (λ (s : Control). countsAt (a .t .now) s) noControl (a .t2) (l .rows) (l .i) (omega arith) (omega arith))
+unfolding countRows
+returns c =
+    let l = c .before .loop in
+    let a = c .before .before .args in
+    spread-all (λ (s : Control). countsAt (a .t .now) s) (a .t2) (countsOn (l .rows)) (l .i) (l .inv .1) (search needs)
 
 pub count-rows-spec : {M : Type 1} → statement M
 count-rows-spec =
@@ -70,11 +68,11 @@ count-rows-spec =
     (tie.spec
     Inv-loop
     μ-loop
-    no-counts-requires
     loop-holds
     mul-s
     array-copy-out-s
     counts-in-requires
+    counts-row-requires
     mul-rows
     array-set-from-rows
     add-i

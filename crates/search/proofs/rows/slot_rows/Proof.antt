@@ -1,27 +1,26 @@
 -- `search::rows::slot_rows` meets its contract: the loop keeps the rows that are put already and those still to come. The
 -- measure is the rows left.
-use Prim.Native.Nat.{_+_, _-_, _≤_}
-use mathlib.Core.List.{_++_, map}
-use mathlib.Core.Path.{_≡_, refl, sym, _∙_}
-use native.Mathlib.Omega.{arith}
-use lib.ListN.{length, take, drop, length-set}
+use Prim.Native.Nat.{ℕ, _-_}
+use mathlib.Core.List.{List}
+use mathlib.Core.Path.{refl}
 use borrow.Author.Needs.{needs}
 use Rattle.state.specs.declared.control.Control.{Control}
 use Rattle.search.specs.Rows.{slotRows}
 use Rattle.search.specs.Enter.{noControl}
-use Rattle.search.proofs.Stacked.{rows-more, rows-end, length-stack}
+use Rattle.search.proofs.Stacked.{length-stack, Spread, spread-next, spread-all}
 use Rattle.search.proofs.rows.slot_rows.Statement.{statement}
 use Rattle.search.proofs.rows.slot_rows.Tie as tie
 
+abbrev part : Control → List ℕ
+part s = s .frame .slots
+
 abbrev Inv-loop : tie.InvT-loop
-Inv-loop stack rows₀ i₀ rows i =
-    (slotRows stack ≡ take i rows ++ map (λ (s : Control). s .frame .slots) (drop i stack)) × (length rows ≡ 25) × (length stack ≡ 25) × (i ≤ 25)
+Inv-loop stack rows₀ i₀ rows i = Spread part stack rows i
 
 abbrev μ-loop : tie.MeasureT-loop
 μ-loop stack rows₀ i₀ rows i = 25 - i
 
 loop-holds : tie.Need-loop-holds Inv-loop μ-loop
-unfolding slotRows
 loop-holds c = (refl, search needs, search (needs, length-stack), search needs)
 
 mul-s : tie.Need-mul-s Inv-loop μ-loop
@@ -43,16 +42,14 @@ loop-less : tie.Need-loop-less Inv-loop μ-loop
 loop-less c = search needs
 
 loop-again : tie.Need-loop-again Inv-loop μ-loop
-loop-again c = let p4 = c .before .before .before .before in let l = p4 .loop in (
-  l .inv .0 ∙ rows-more (λ (s : Control). s .frame .slots) noControl (p4 .before .args .t1) (l .rows) (l .i) (omega arith) (omega arith),
-  simp length-set (search needs),
-  search needs,
-  search needs,
-)
+loop-again c =
+    let p4 = c .before .before .before .before in
+    let l = p4 .loop in
+    spread-next part (p4 .before .args .t1) noControl (l .rows) (l .i) (l .inv) (search needs)
 
 returns : tie.Need-returns Inv-loop μ-loop
-returns c = let l = c .before .loop in
-    sym (l .inv .0 ∙ rows-end (λ (s : Control). s .frame .slots) noControl (c .before .before .args .t1) (l .rows) (l .i) (omega arith) (omega arith))
+unfolding slotRows
+returns c = let l = c .before .loop in spread-all part (c .before .before .args .t1) (l .rows) (l .i) (l .inv) (search needs)
 
 pub slot-rows-spec : {M : Type 1} → statement M
 slot-rows-spec =

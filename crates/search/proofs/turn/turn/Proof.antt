@@ -19,8 +19,8 @@ returns c =
     let p1 = c .before in let p2 = p1 .before in
     rw (c .still .ensures, le-leb _ _ (p2 .if1 .taken), ← (p1 .closed .ensures))
 
-seek-lent-requires : tie.Need-seek-lent-requires
-seek-lent-requires c κs = search needs
+seek-requires : tie.Need-seek-requires
+seek-requires c κs = search needs
 
 between-requires : tie.Need-between-requires
 between-requires c κs = search needs
@@ -45,7 +45,7 @@ returns-2 c =
     rw (
       c .still2 .ensures,
       lt-leb _ _ (p8 .if1 .left),
-      ← (p7 .seek-lent .ensures),
+      ← (p7 .seek .ensures),
       ← (p6 .between .ensures),
       lt-ltb _ _ (p4 .if2 .taken),
       ← (p3 .reached .ensures),
@@ -66,7 +66,7 @@ returns-3 c =
     rw (
       c .still3 .ensures,
       lt-leb _ _ (p7 .if1 .left),
-      ← (p6 .seek-lent .ensures),
+      ← (p6 .seek .ensures),
       ← (p5 .between .ensures),
       le-ltb _ _ (p3 .if2 .left),
       le-leb _ _ (p2 .if3 .taken),
@@ -90,7 +90,7 @@ returns-4 c =
     rw (
       c .still4 .ensures,
       lt-leb _ _ (p10 .if1 .left),
-      ← (p9 .seek-lent .ensures),
+      ← (p9 .seek .ensures),
       ← (p8 .between .ensures),
       le-ltb _ _ (p6 .if2 .left),
       lt-leb _ _ (p5 .if3 .left),
@@ -158,7 +158,7 @@ returns-5 c =
     rw (
       c .still6 .ensures,
       lt-leb _ _ (p26 .if1 .left),
-      ← (p25 .seek-lent .ensures),
+      ← (p25 .seek .ensures),
       ← (p24 .between .ensures),
       le-ltb _ _ (p22 .if2 .left),
       lt-leb _ _ (p21 .if3 .left),
@@ -189,7 +189,7 @@ returns-6 c =
     rw (
       c .still5 .ensures,
       lt-leb _ _ (p18 .if1 .left),
-      ← (p17 .seek-lent .ensures),
+      ← (p17 .seek .ensures),
       ← (p16 .between .ensures),
       le-ltb _ _ (p14 .if2 .left),
       lt-leb _ _ (p13 .if3 .left),
@@ -213,7 +213,7 @@ returns-7 c =
     let a = p26 .args in
     rw (
       lt-leb _ _ (p21 .if1 .left),
-      ← (p20 .seek-lent .ensures),
+      ← (p20 .seek .ensures),
       ← (p19 .between .ensures),
       le-ltb _ _ (p17 .if2 .left),
       lt-leb _ _ (p16 .if3 .left),
@@ -237,7 +237,7 @@ turn-spec =
     closed-requires
     still-requires
     returns
-    seek-lent-requires
+    seek-requires
     between-requires
     reached-requires
     at-code-requires

@@ -1,30 +1,38 @@
--- `terms::subst::second_operand` meets its contract: one return for each answer.
-use borrow.Author.Needs.{needs}
+-- `terms::subst::second_operand` meets its contract: a label, or why there is none.
 use Rattle.terms.specs.Subst.{secondOperand}
+use Rattle.terms.proofs.Answers.{answer-with, operand-without}
+use borrow.Author.Needs.{needs}
 use Rattle.terms.proofs.subst.second_operand.Statement.{statement}
 use Rattle.terms.proofs.subst.second_operand.Tie as tie
 
-enum-known-g : tie.Need-enum-known-g
-enum-known-g c = search needs
+has-label-requires : tie.Need-has-label-requires
+has-label-requires c κs = search needs
 
-enum-told : tie.Need-enum-told
-enum-told c = search needs
+label-in-requires : tie.Need-label-in-requires
+label-in-requires c κs = search needs
 
-enum-told-2 : tie.Need-enum-told-2
-enum-told-2 c = search needs
+count-in-requires : tie.Need-count-in-requires
+count-in-requires c κs = search needs
+
+not-taken-requires : tie.Need-not-taken-requires
+not-taken-requires c κs = search needs
 
 returns : tie.Need-returns
 unfolding secondOperand
-returns c = rw (c .before .g .given .1)
+returns c =
+    let p2 = c .before .before in
+    rw (answer-with _ _ (p2 .before .has-label .ensures) (p2 .if1 .taken), ← (c .before .label-in .ensures), ← (c .count-in .ensures))
 
 returns-2 : tie.Need-returns-2
-unfolding secondOperand
-returns-2 c = rw (c .enum-told .given .1)
-
-returns-3 : tie.Need-returns-3
-unfolding secondOperand
-returns-3 c = rw (c .enum-told2 .given .1)
+returns-2 c = rw (operand-without _ _ (c .before .before .has-label .ensures) _ (c .before .if1 .left), ← (c .not-taken .ensures))
 
 pub second-operand-spec : {M : Type 1} → statement M
 second-operand-spec =
-    tie.close (tie.spec enum-known-g enum-told enum-told-2 returns returns-2 returns-3)
+    tie.close
+    (tie.spec
+    has-label-requires
+    label-in-requires
+    count-in-requires
+    not-taken-requires
+    returns
+    returns-2)

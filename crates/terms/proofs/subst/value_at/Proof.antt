@@ -18,7 +18,7 @@ returns : tie.Need-returns
 returns c = search needs
 
 returns-2 : tie.Need-returns-2
-returns-2 c = sym (List·getD-eq-default (c .before .args .values .now) 0 (c .if1 .left))
+returns-2 c = sym (List·getD-eq-default (c .before .before .args .values .now) 0 (c .if1 .left))
 
 pub value-at-spec : {M : Type 1} → statement M
 value-at-spec = tie.close (tie.spec add-i mul-result shared-slice-read-result returns returns-2)

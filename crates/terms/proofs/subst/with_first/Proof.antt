@@ -1,11 +1,8 @@
--- `terms::subst::with_first` meets its contract: a label is entered above, a refusal is handed on.
-use borrow.Author.Needs.{needs}
+-- `terms::subst::with_first` meets its contract: the old term's other fields are read and the new one is entered.
 use Rattle.terms.specs.Subst.{withFirst}
+use borrow.Author.Needs.{needs}
 use Rattle.terms.proofs.subst.with_first.Statement.{statement}
 use Rattle.terms.proofs.subst.with_first.Tie as tie
-
-enum-known-g : tie.Need-enum-known-g
-enum-known-g c = search needs
 
 line-at-requires : tie.Need-line-at-requires
 line-at-requires c κs = search needs
@@ -16,36 +13,9 @@ term-in-requires c κs = search needs
 entered-requires : tie.Need-entered-requires
 entered-requires c κs = search needs
 
-enum-told : tie.Need-enum-told
-enum-told c = search needs
-
-enum-told-2 : tie.Need-enum-told-2
-enum-told-2 c = search needs
-
 returns : tie.Need-returns
 unfolding withFirst
-returns c =
-    let p2 = c .before .before in let p3 = p2 .before in let p6 = p3 .before .before .before in
-    rw (p6 .g .given .1, ← (p3 .line-at .ensures), ← (p2 .term-in .ensures), ← (c .entered .ensures))
-
-returns-2 : tie.Need-returns-2
-unfolding withFirst
-returns-2 c = rw (c .enum-told .given .1)
-
-returns-3 : tie.Need-returns-3
-unfolding withFirst
-returns-3 c = rw (c .enum-told2 .given .1)
+returns c = rw (← (c .before .before .before .line-at .ensures), ← (c .before .before .term-in .ensures), ← (c .entered .ensures))
 
 pub with-first-spec : {M : Type 1} → statement M
-with-first-spec =
-    tie.close
-    (tie.spec
-    enum-known-g
-    line-at-requires
-    term-in-requires
-    entered-requires
-    enum-told
-    enum-told-2
-    returns
-    returns-2
-    returns-3)
+with-first-spec = tie.close (tie.spec line-at-requires term-in-requires entered-requires returns)

@@ -10,9 +10,6 @@ first-break-requires c κs = search needs
 returns : tie.Need-returns
 returns c = search needs
 
-stand-requires : tie.Need-stand-requires
-stand-requires c κs = search needs
-
 start-requires : tie.Need-start-requires
 start-requires c κs = search needs
 
@@ -25,12 +22,11 @@ broken-requires c κs = search needs
 returns-2 : tie.Need-returns-2
 returns-2 c =
     let p2 = c .before .before in
-    let p4 = p2 .before .before in
-    let a = p4 .before .before .args in
+    let p3 = p2 .before in
+    let a = p3 .before .before .args in
     rw (
-      ← (judged-same (a .records .now) (a .c) (a .n) (p4 .if1 .left)),
+      ← (judged-same (a .records .now) (a .c) (a .n) (p3 .if1 .left)),
       ← (p2 .start .ensures),
-      ← (p2 .before .stand .ensures),
       ← (c .before .judge-table .ensures),
       ← (c .broken .ensures),
     )
@@ -41,7 +37,6 @@ judge-spec =
     (tie.spec
     first-break-requires
     returns
-    stand-requires
     start-requires
     judge-table-requires
     broken-requires

@@ -1,5 +1,4 @@
 -- `trace::event::event_from` meets its contract: twelve numbers, each read by its place.
-use Rattle.terms.proofs.Laws.{tests}
 use Rattle.trace.specs.Event.{eventAt}
 use borrow.Author.Needs.{needs}
 use Rattle.trace.proofs.event.event_from.Statement.{statement}

@@ -1,0 +1,95 @@
+-- A substitution's answer as one number: what is put into it is read out of it again, and one without a label is handed
+-- on as it is.
+use Prim.Native.Nat.{ℕ, _+_, _*_, _/_, _%_, _<_}
+use mathlib.Core.Bool.{Bool, true, false}
+use mathlib.Core.List.{List}
+use mathlib.Core.Path.{_≡_, refl}
+use native.Mathlib.Omega.{arith}
+use borrow.Author.Tests.{lt-ltb, le-ltb}
+use Rattle.terms.specs.Base.{pick, Held, held}
+use Rattle.terms.specs.Subbed.{Label, Deep, Full, Subbed, subbed, labelIn, countIn, hasLabel, isDeep, subbedIn}
+use Rattle.terms.specs.Subst.{firstBy, withFirst, secondBy, withSecond, bothBy, withBoth, thenSecond, takenBy, secondOperand, operands, afterFirst}
+use Rattle.terms.specs.declared.subst.Taken.the-variants as T
+use Rattle.terms.specs.Entry.{notTaken}
+
+pub answer-label : (i c : ℕ) → i < 65536 → c < 65536 → subbedIn (c * 65536 + i) ≡ subbed (Label i) c
+unfolding subbedIn hasLabel labelIn countIn
+answer-label i c h k =
+    let n : ℕ = c * 65536 + i in
+    let p : n % 65536 ≡ i = omega arith in
+    let d : n / 65536 ≡ c = omega arith in
+    let m : c % 65536 ≡ c = omega arith in
+    let q : n / 65536 % 65536 ≡ c = rw d m in
+    rw (lt-ltb n 4294967296 (omega arith), p, q)
+
+pub answer-deep : (c : ℕ) → c < 65536 → subbedIn (4294967296 + c * 65536) ≡ subbed Deep c
+unfolding subbedIn hasLabel isDeep countIn
+answer-deep c k =
+    let n : ℕ = 4294967296 + c * 65536 in
+    let q : n / 65536 % 65536 ≡ c = omega arith in
+    rw (le-ltb n 4294967296 (omega arith), lt-ltb n 8589934592 (omega arith), q)
+
+pub answer-full : (c : ℕ) → c < 65536 → subbedIn (8589934592 + c * 65536) ≡ subbed Full c
+unfolding subbedIn hasLabel isDeep countIn
+answer-full c k =
+    let n : ℕ = 8589934592 + c * 65536 in
+    let q : n / 65536 % 65536 ≡ c = omega arith in
+    rw (le-ltb n 4294967296 (omega arith), le-ltb n 8589934592 (omega arith), q)
+
+-- b is what the code found of the answer n
+module _ (n : ℕ) (b : Bool) (e : b ≡ hasLabel n) where
+  pub answer-with : b ≡ true → subbedIn n ≡ subbed (Label (labelIn n)) (countIn n)
+  unfolding subbedIn
+  answer-with h = rw (← e, h)
+
+  without : b ≡ false → subbedIn n ≡ subbed (pick (isDeep n) Deep Full) (countIn n)
+  unfolding subbedIn
+  without h = rw (← e, h)
+
+  pub first-without : (l : List ℕ) (i : ℕ) → b ≡ false → withFirst l i (subbedIn n) ≡ held (subbedIn n) l
+  unfolding withFirst
+  first-without l i h = rw (without h) (go (isDeep n))
+    where
+      go : (d : Bool) → firstBy (pick d Deep Full) (countIn n) i l ≡ held (subbed (pick d Deep Full) (countIn n)) l
+      go true = refl
+      go false = refl
+
+  pub second-without : (l : List ℕ) (i : ℕ) → b ≡ false → withSecond l i (subbedIn n) ≡ held (subbedIn n) l
+  unfolding withSecond
+  second-without l i h = rw (without h) (go (isDeep n))
+    where
+      go : (d : Bool) → secondBy (pick d Deep Full) (countIn n) i l ≡ held (subbed (pick d Deep Full) (countIn n)) l
+      go true = refl
+      go false = refl
+
+  pub both-without : (l : List ℕ) (i a : ℕ) → b ≡ false → withBoth l i a (subbedIn n) ≡ held (subbedIn n) l
+  unfolding withBoth
+  both-without l i a h = rw (without h) (go (isDeep n))
+    where
+      go : (d : Bool) → bothBy (pick d Deep Full) (countIn n) i a l ≡ held (subbed (pick d Deep Full) (countIn n)) l
+      go true = refl
+      go false = refl
+
+  pub then-without : (l : List ℕ) (i j : ℕ) (down : List ℕ → ℕ → ℕ → Held Subbed) → b ≡ false
+      → thenSecond (subbedIn n .got) (subbedIn n .count) i j down l ≡ held (subbedIn n) l
+  then-without l i j down h = rw (without h) (go (isDeep n))
+    where
+      go : (d : Bool) → thenSecond (pick d Deep Full) (countIn n) i j down l ≡ held (subbed (pick d Deep Full) (countIn n)) l
+      go true = refl
+      go false = refl
+
+  pub operand-without : (i : ℕ) → b ≡ false → secondOperand i (subbedIn n) ≡ notTaken n
+  unfolding secondOperand notTaken
+  operand-without i h = rw (without h) (go (isDeep n))
+    where
+      go : (d : Bool) → takenBy (pick d Deep Full) (countIn n) i ≡ operands (pick d T.Deep T.Full) (countIn n)
+      go true = refl
+      go false = refl
+
+  pub operands-without : (l vs : List ℕ) (o y : ℕ) → b ≡ false → afterFirst (subbedIn n .got) (subbedIn n .count) l vs o y ≡ held (notTaken n) l
+  unfolding notTaken
+  operands-without l vs o y h = rw (without h) (go (isDeep n))
+    where
+      go : (d : Bool) → afterFirst (pick d Deep Full) (countIn n) l vs o y ≡ held (operands (pick d T.Deep T.Full) (countIn n)) l
+      go true = refl
+      go false = refl
