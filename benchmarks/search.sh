@@ -5,7 +5,9 @@
 # LIST=PROGRAM measures another build of the list program. Figures for people; no test goes by them.
 set -eu
 export LC_ALL=C
-cd "$(dirname "$0")/.."
+here=$(cd "$(dirname "$0")/.." && pwd -P)
+. "$here/kit.sh"
+cd "$here"
 turns=${1:-5}
 walker=benchmarks/walker/target/release/walker
 work=$(mktemp -d)
@@ -65,10 +67,7 @@ measure() {
 build_walker
 # Proves and builds the list program, where that is to be done, before any turn is measured.
 cat models/bare.model models/bare.goal | bench_list >/dev/null
-case $(uname -m) in
-    x86_64) ;;
-    *) echo "on this machine programs run under the kit's emulator, so the figures say nothing of a real one" ;;
-esac
+[ -n "${LIST:-}" ] || tell_emulated
 for goal in benchmarks/models/*.goal; do
     measure "$(basename "$goal" .goal)"
 done

@@ -2,18 +2,17 @@
 # Nanoseconds of one step tried from a configuration that stays: the program step_rate makes two million tries.
 # Prints a line for each kind of step. Figures for people; no test goes by them.
 set -eu
-cd "$(dirname "$0")/.."
-rt check step_rate >/dev/null || { echo "step_rate is not proved: run 'rt check step_rate'"; exit 1; }
-case $(uname -m) in
-    x86_64) ;;
-    *) echo "on this machine programs run under the kit's emulator, so the figures say nothing of a real one" ;;
-esac
+here=$(cd "$(dirname "$0")/.." && pwd -P)
+. "$here/kit.sh"
+find_kit
+build step_rate
+tell_emulated
 # best KIND: nanoseconds of a try, the best of five turns
 best() {
     least=
     for turn in 1 2 3 4 5; do
         from=$(date +%s%N)
-        printf %s "$1" | target/bin/step_rate >/dev/null
+        printf %s "$1" | start step_rate >/dev/null
         to=$(date +%s%N)
         spent=$(((to - from) / 2000000))
         if [ -z "$least" ] || [ "$spent" -lt "$least" ]; then least=$spent; fi

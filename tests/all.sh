@@ -4,18 +4,21 @@
 . "$(dirname "$0")/common.sh"
 cd "$root" || exit 1
 
-# counted WHAT STATUS: adds the verdict that ends a log, and shows the log
+# counted WHAT COMMAND..: runs it, shows what it says as it comes, and adds the verdict that ends it
 counted() {
-    cat "$work/log"
+    what=$1
+    shift
+    { "$@" 2>&1; echo $? >"$work/status"; } | tee "$work/log"
+    read -r status <"$work/status"
     last=$(tail -n 1 "$work/log")
     case $last in
         *[0-9]' passed, '*[0-9]' failed')
             passed=$((passed + ${last%% *}))
             fails=${last#* passed, }
             failed=$((failed + ${fails%% *}))
-            [ "$2" = 0 ] || [ "${fails%% *}" != 0 ] || miss "$1 ended with status $2"
+            [ "$status" = 0 ] || [ "${fails%% *}" != 0 ] || miss "$what ended with status $status"
             ;;
-        *) miss "$1 gave no verdict" ;;
+        *) miss "$what gave no verdict" ;;
     esac
 }
 
@@ -25,15 +28,13 @@ if ! command -v rt >/dev/null 2>&1; then
     verdict
     exit 1
 fi
-rt ci >"$work/log" 2>&1
-counted "rt ci" $?
+counted "rt ci" rt ci
 if rt fmt --check >"$work/fmt" 2>&1; then pass; else
     cat "$work/fmt"
     miss "rt fmt --check names files: run 'rt fmt'"
 fi
 for part in vectors models reference hostile; do
     echo "== $part"
-    sh "tests/$part.sh" >"$work/log" 2>&1
-    counted "$part" $?
+    counted "$part" sh "tests/$part.sh"
 done
 verdict

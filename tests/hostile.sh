@@ -83,6 +83,7 @@ wrong "a bound too large" "from 1 to 24" list --bound 25 "$bare"
 wrong "a bound of no number" "from 1 to 24" list --bound x "$bare"
 wrong "a budget too large" "up to 4294967295" list --bound 3 --budget 4294967296 "$bare"
 wrong "a code too large" "up to 65535" run --codes 65536 "$bare"
+wrong "a code left out" "one comma each" run --codes 160,,0 "$bare"
 wrong "no such option" "has no option" run --bound 3 "$bare"
 wrong "two files" "one file at a time" list "$bare" "$bare"
 printf 'V\t1' >"$work/in"
@@ -95,9 +96,22 @@ limited env RATTLE_HOME="$work" "$bench" list "$bare" >/dev/null 2>"$work/said"
 status=$?
 words "no kit in its folder" "no kit at" 2
 
+# a file that lacks its G line, or has one where an option adds another, is refused, and it is said why
+limited "$bench" list "$bare" >"$work/got" 2>"$work/said"
+status=$?
+outcome "list: no G line" "refused 20 8"
+words "list: no G line, said" "give --bound" 0
+{ cat "$bare"; printf 'G\t3\t1000\n'; } >"$work/in"
+limited "$bench" list --bound 3 "$work/in" >"$work/got" 2>"$work/said"
+status=$?
+outcome "list: two G lines" "refused 20 8"
+words "list: two G lines, said" "of its own" 0
+
 # options add the lines that a bare model file lacks
 limited "$bench" list --bound 3 --budget 1000 "$bare" >"$work/got"
 same "list --bound --budget" "$root/models/bare.list" "$work/got"
+limited "$bench" list --bound 3 -- "$bare" >"$work/got"
+same "list --bound --" "$root/models/bare.list" "$work/got"
 limited "$bench" list --bound 3 <"$bare" >"$work/got"
 same "list --bound, standard input" "$root/models/bare.list" "$work/got"
 limited "$bench" run --codes 160,0,12,0 "$bare" >"$work/got"

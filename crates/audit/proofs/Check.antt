@@ -19,7 +19,7 @@ use Rattle.audit.specs.Listed.{machineSound, machinesSound, locationSoun
 use Rattle.audit.specs.Claims.{claimSound}
 use Rattle.audit.specs.Models.{termsListed, soundModel}
 use Rattle.audit.specs.Sound.{ZeroPast, SoundModel}
-use Rattle.audit.proofs.Laws.{each-at, at-each}
+use Rattle.terms.proofs.Each.{each-at, at-each}
 use Rattle.audit.proofs.Fits.{action-none, claim-fit, code-named, lengths-past, location-fit, location-none, machine-fit}
 use Rattle.audit.proofs.Fits.{machine-none, no-nonce, program-fit, term-listed, thread-fit, thread-none}
 use Rattle.audit.proofs.Passes.{machine-pass, thread-pass, location-pass, claim-pass, program-pass, new-pass, terms-pass}

@@ -10,22 +10,22 @@ use Rattle.terms.specs.Line.{lineAt, termIn}
 use Rattle.terms.specs.Sound.{Sound}
 use Rattle.terms.specs.Meaning.{treeOf}
 use Rattle.terms.proofs.Meaning.{also-right}
-use Rattle.model.specs.Records.{packAction, actionIn, actionAt, lengthAt}
-use Rattle.model.specs.Fields.{locOf}
+use Rattle.model.specs.Records.{packAction, actionIn, actionNumber, actionAt, lengthAt}
+use Rattle.model.specs.Fields.{namesLocation}
 use Rattle.model.specs.declared.records.Action.{Action}
 use Rattle.model.specs.declared.records.Claim.{Claim}
 use Rattle.model.specs.declared.records.Model.{Model}
 use Rattle.model.proofs.Tests.{both-pass, pick-yes, pick-no}
 use Rattle.audit.specs.Tops.{topmost, topAt, topsOf}
-use Rattle.audit.specs.Programs.{listedAndFits, namesLocation, locFits, operandFits, actionFits, lastIfClosing}
-use Rattle.audit.specs.Programs.{actionSound, numberOf, actionsSound, lengthFits, programSound, newProgram}
+use Rattle.audit.specs.Programs.{listedAndFits, locFits, operandFits, actionFits, lastIfClosing}
+use Rattle.audit.specs.Programs.{actionSound, actionsSound, lengthFits, programSound, newProgram}
 use Rattle.audit.specs.Listed.{machineSound, firstFits, locationSound, threadSound}
 use Rattle.audit.specs.Claims.{pathProgram, pathSound, claimSound}
 use Rattle.audit.specs.Models.{namesProgram, mayBeListed, termsListed}
 use Rattle.audit.specs.Sound.{FitOperand, FitLoc, FitAction, FitProgram, FitMachine, FitLocation, FitThread, FitClaim}
-use Rattle.audit.proofs.Laws.{all-at, each-at}
+use Rattle.terms.proofs.Each.{all-at, each-at}
 use Rattle.audit.proofs.Highest.{top-right}
-use Rattle.audit.proofs.Places.{machine-in, location-in, thread-in, action-in, length-none}
+use Rattle.model.proofs.Places.{machine-in, location-in, thread-in, action-in, length-none}
 use Rattle.audit.proofs.Parts.{stored-right}
 
 module _ (m : Model) where
@@ -84,7 +84,7 @@ module _ (m : Model) where
   pub code-named : (n : ℕ) → mayBeListed n (m .programs) ≡ true → termIn n .kind ≡ 8 → termIn n .a < m .programs
   unfolding mayBeListed namesProgram
   code-named n e h =
-      let named : namesProgram n (m .programs) ≡ true = also-right (not (eqb (termIn n .kind) 7)) (namesProgram n (m .programs)) e in
+      let named : namesProgram (termIn n) (m .programs) ≡ true = also-right (not (eqb (termIn n .kind) 7)) (namesProgram (termIn n) (m .programs)) e in
       ltb-true _ _ (pick-yes (eqb (termIn n .kind) 8) (ltb (termIn n .a) (m .programs)) true (eq-eqb _ _ h) named)
 
   pub term-listed : termsListed (m .lines) (m .count) (m .programs) ≡ true → (i : ℕ) → 3 ≤ i → i < m .count
@@ -121,7 +121,7 @@ module _ (m : Model) where
         let top : topAt (topsOf (m .lines)) label ≡ topmost (treeOf (m .lines) (m .count) label) = top-right S long label below in
         record { below = below; earlier = omega (arith, low, top) }
 
-    loc-fit : (a : Action) → locFits (m .locations) a (m .«location_count») ≡ true → namesLocation (locOf (a .op)) ≡ true → FitLoc m a
+    loc-fit : (a : Action) → locFits (m .locations) a (m .«location_count») ≡ true → namesLocation (a .op) ≡ true → FitLoc m a
     unfolding locFits listedAndFits
     loc-fit a e h =
         let b = both-pass _ _ (pick-yes _ _ _ h e) in
@@ -145,13 +145,13 @@ module _ (m : Model) where
     -- action k, before the end of its program
     action-judged : (p k : ℕ) → lengthAt (m .lengths) p ≤ 16 → k < lengthAt (m .lengths) p
         → actionsSound (m .actions) (m .locations) (topsOf (m .lines)) p (lengthAt (m .lengths) p) (m .«location_count») (m .count) ≡ true
-        → (packAction (actionAt (m .actions) p k) ≡ numberOf (m .actions) p k) × FitAction m k (lengthAt (m .lengths) p) (actionAt (m .actions) p k)
+        → (packAction (actionAt (m .actions) p k) ≡ actionNumber (m .actions) p k) × FitAction m k (lengthAt (m .lengths) p) (actionAt (m .actions) p k)
     unfolding actionsSound actionSound
     action-judged p k g h e =
         let a = both-pass _ _ (pick-no _ _ _ (lt-leb (lengthAt (m .lengths) p) k h) (each-at 16 _ e k (omega arith))) in
         let b = both-pass _ _ (a .1) in
         let s = action-in (m .actions) p k in
-        (rw s (eqb-true _ _ (a .0)), rw s (action-fit (actionIn (numberOf (m .actions) p k)) k (lengthAt (m .lengths) p) (b .0) (b .1)))
+        (rw s (eqb-true _ _ (a .0)), rw s (action-fit (actionIn (actionNumber (m .actions) p k)) k (lengthAt (m .lengths) p) (b .0) (b .1)))
 
     pub program-fit : (p : ℕ) → p < m .programs → programSound m (topsOf (m .lines)) p ≡ true → newProgram (m .actions) (m .lengths) p ≡ true → FitProgram m p
     unfolding programSound lengthFits newProgram
@@ -173,7 +173,7 @@ module _ (m : Model) where
   unfolding programSound
   actions-judged p e = also-right (lengthFits p (lengthAt (m .lengths) p) (m .programs)) _ e
 
-  pub action-none : (p k : ℕ) → programSound m (topsOf (m .lines)) p ≡ true → lengthAt (m .lengths) p ≤ k → k < 16 → numberOf (m .actions) p k ≡ 0
+  pub action-none : (p k : ℕ) → programSound m (topsOf (m .lines)) p ≡ true → lengthAt (m .lengths) p ≤ k → k < 16 → actionNumber (m .actions) p k ≡ 0
   unfolding actionsSound actionSound
   action-none p k e h g = eqb-true _ _ (pick-yes _ _ _ (le-leb (lengthAt (m .lengths) p) k h) (each-at 16 _ (actions-judged p e) k g))
 

@@ -19,7 +19,7 @@ use Rattle.state.specs.declared.slot.Slot.{Slot}
 use Rattle.audit.specs.Listed.{storedValue}
 use Rattle.audit.specs.Models.{namesProgram}
 use Rattle.audit.specs.Configuration.{beginsWith, leafSound, leavesSound, tableSound, isBound, varSound, varsSound, valueSound, valuesSound}
-use Rattle.audit.proofs.Laws.{each-at, at-each}
+use Rattle.terms.proofs.Each.{each-at, at-each}
 use Rattle.audit.specs.Whole.{SoundTerms, Stored, SoundValues, VarSound, SoundVars}
 
 -- the label of a ground term
@@ -37,12 +37,12 @@ module _ {l : List ℕ} {n : ℕ} (S : Sound l n) (long : length l ≡ 512) wher
 -- leaves
 leaf-nonce : (x programs nonce : ℕ) → leafSound x programs nonce ≡ true → termIn x .kind ≡ 7 → termIn x .a < nonce
 unfolding leafSound
-leaf-nonce x p n e h = ltb-true (termIn x .a) n (pick-yes (eqb (termIn x .kind) 7) (ltb (termIn x .a) n) (namesProgram x p) (eq-eqb (termIn x .kind) 7 h) e)
+leaf-nonce x p n e h = ltb-true (termIn x .a) n (pick-yes (eqb (termIn x .kind) 7) (ltb (termIn x .a) n) (namesProgram (termIn x) p) (eq-eqb (termIn x .kind) 7 h) e)
 
-leaf-named : (x programs nonce : ℕ) → leafSound x programs nonce ≡ true → termIn x .kind ≡ 8 → namesProgram x programs ≡ true
+leaf-named : (x programs nonce : ℕ) → leafSound x programs nonce ≡ true → termIn x .kind ≡ 8 → namesProgram (termIn x) programs ≡ true
 unfolding leafSound
 leaf-named x p n e h =
-    pick-no (eqb (termIn x .kind) 7) (ltb (termIn x .a) n) (namesProgram x p) (ne-eqb (termIn x .kind) 7 (λ z. omega (arith, h, z))) e
+    pick-no (eqb (termIn x .kind) 7) (ltb (termIn x .a) n) (namesProgram (termIn x) p) (ne-eqb (termIn x .kind) 7 (λ z. omega (arith, h, z))) e
 
 leaf-code : (x programs nonce : ℕ) → leafSound x programs nonce ≡ true → termIn x .kind ≡ 8 → termIn x .a < programs
 unfolding namesProgram

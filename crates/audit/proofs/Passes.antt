@@ -8,22 +8,23 @@ use lib.Dec.{ltb, leb, eqb}
 use borrow.Author.Tests.{ltb-true, ltb-false, leb-true, leb-false, eqb-true, lt-ltb, le-leb, eq-eqb, ne-eqb}
 use Rattle.terms.specs.Line.{lineAt, termIn}
 use Rattle.terms.specs.Meaning.{treeOf}
+use Rattle.terms.specs.declared.term.Term.{Term}
 use Rattle.terms.proofs.Meaning.{also-both}
-use Rattle.model.specs.Records.{actionIn, locationIn, lengthAt}
-use Rattle.model.specs.Fields.{locOf, closing, isMemory}
+use Rattle.model.specs.Records.{actionIn, actionNumber, locationIn, lengthAt}
+use Rattle.model.specs.Fields.{namesLocation, closing, isMemory}
 use Rattle.model.specs.declared.records.Action.{Action}
 use Rattle.model.specs.declared.records.Model.{Model}
 use Rattle.model.proofs.Tests.{pass-by}
 use Rattle.audit.specs.Tops.{topmost, topAt, topsOf}
-use Rattle.audit.specs.Programs.{listedAndFits, namesLocation, locFits, operandFits, actionFits, lastIfClosing}
-use Rattle.audit.specs.Programs.{actionSound, numberOf, actionsSound, lengthFits, programSound, newProgram}
+use Rattle.audit.specs.Programs.{listedAndFits, locFits, operandFits, actionFits, lastIfClosing}
+use Rattle.audit.specs.Programs.{actionSound, actionsSound, lengthFits, programSound, newProgram}
 use Rattle.audit.specs.Listed.{machineSound, firstFits, locationSound, threadSound}
 use Rattle.audit.specs.Claims.{pathProgram, pathSound, claimSound}
 use Rattle.audit.specs.Models.{namesProgram, mayBeListed, termsListed}
 use Rattle.audit.specs.Sound.{FitOperand, FitLoc, FitAction, SoundModel}
-use Rattle.audit.proofs.Laws.{at-all, at-each}
+use Rattle.terms.proofs.Each.{at-all, at-each}
 use Rattle.audit.proofs.Highest.{top-right}
-use Rattle.audit.proofs.Places.{machine-in, location-in, thread-in, action-in}
+use Rattle.model.proofs.Places.{machine-in, location-in, thread-in, action-in}
 use Rattle.audit.proofs.Parts.{stored-pass}
 
 module _ (m : Model) (M : SoundModel m) (long : length (m .lines) ≡ 512) where
@@ -86,9 +87,9 @@ module _ (m : Model) (M : SoundModel m) (long : length (m .lines) ≡ 512) where
       let top : topAt (topsOf (m .lines)) label ≡ topmost (treeOf (m .lines) (m .count) label) = top-right (M .table) long label (F .below) in
       also-both (lt-ltb _ _ (F .below)) (rw top (le-leb _ _ (F .earlier)))
 
-  loc-pass : (a : Action) → (namesLocation (locOf (a .op)) ≡ true → FitLoc m a) → locFits (m .locations) a (m .«location_count») ≡ true
+  loc-pass : (a : Action) → (namesLocation (a .op) ≡ true → FitLoc m a) → locFits (m .locations) a (m .«location_count») ≡ true
   unfolding locFits listedAndFits
-  loc-pass a f = pass-by (namesLocation (locOf (a .op))) _ _ (λ e. let F = f e in also-both (lt-ltb _ _ (F .below)) (F .kind)) (λ e. refl)
+  loc-pass a f = pass-by (namesLocation (a .op)) _ _ (λ e. let F = f e in also-both (lt-ltb _ _ (F .below)) (F .kind)) (λ e. refl)
 
   last-pass : (op k n : ℕ) → (closing op ≡ true → k + 1 ≡ n) → lastIfClosing op k n ≡ true
   unfolding lastIfClosing
@@ -107,10 +108,10 @@ module _ (m : Model) (M : SoundModel m) (long : length (m .lines) ≡ 512) where
       by false e = absurd (omega (arith, h, M .zeros .lengths p (ltb-false p (m .programs) e)))
 
   action-pass : (p k : ℕ) → p < 32 → k < 16
-      → actionSound (numberOf (m .actions) p k) (m .locations) (topsOf (m .lines)) k (lengthAt (m .lengths) p) (m .«location_count») (m .count) ≡ true
+      → actionSound (actionNumber (m .actions) p k) (m .locations) (topsOf (m .lines)) k (lengthAt (m .lengths) p) (m .«location_count») (m .count) ≡ true
   unfolding actionSound
   action-pass p k h g =
-      let n : ℕ = numberOf (m .actions) p k in
+      let n : ℕ = actionNumber (m .actions) p k in
       let size : ℕ = lengthAt (m .lengths) p in
       pass-by (leb size k) _ _ (λ e. eq-eqb _ _ (M .zeros .actions p k h (leb-true _ _ e) g))
       (λ e.
@@ -139,13 +140,13 @@ module _ (m : Model) (M : SoundModel m) (long : length (m .lines) ≡ 512) where
   unfolding newProgram
   new-pass p h = at-each p _ (λ q g. rw (M .programs p h .new q g))
 
-  named-pass : (n : ℕ) → (termIn n .kind ≡ 8 → termIn n .a < m .programs) → namesProgram n (m .programs) ≡ true
+  named-pass : (x : Term) → (x .kind ≡ 8 → x .a < m .programs) → namesProgram x (m .programs) ≡ true
   unfolding namesProgram
-  named-pass n f = pass-by (eqb (termIn n .kind) 8) _ _ (λ e. lt-ltb _ _ (f (eqb-true _ _ e))) (λ e. refl)
+  named-pass x f = pass-by (eqb (x .kind) 8) _ _ (λ e. lt-ltb _ _ (f (eqb-true _ _ e))) (λ e. refl)
 
   listed-pass : (n : ℕ) → (termIn n .kind ≡ 7 → ⊥) → (termIn n .kind ≡ 8 → termIn n .a < m .programs) → mayBeListed n (m .programs) ≡ true
   unfolding mayBeListed
-  listed-pass n f g = rw (ne-eqb (termIn n .kind) 7 f) (named-pass n g)
+  listed-pass n f g = rw (ne-eqb (termIn n .kind) 7 f) (named-pass (termIn n) g)
 
   pub terms-pass : termsListed (m .lines) (m .count) (m .programs) ≡ true
   unfolding termsListed

@@ -1,32 +1,27 @@
 -- The test of a configuration says of its frame what the theorems ask for: slots, locks and counters, one by one.
-use Prim.Native.Nat.{ℕ, zero, suc, _+_, _<_, _≤_, max}
+use Prim.Native.Nat.{ℕ, _+_, _<_, _≤_}
 use mathlib.Core.Path.{_≡_, refl, sym}
 use mathlib.Core.Bool.{Bool, true, false}
-use mathlib.Core.List.{List, _∷_}
-use native.Mathlib.Numerals.{add-one}
+use mathlib.Core.List.{List}
 use native.Mathlib.Omega.{arith}
-use lib.ListN.{length, getD, take, drop, length-take, drop-of-length-le, List·getD-eq-default}
-use lib.Seq.{drop-cons, getD-take}
+use lib.ListN.{length, getD, List·getD-eq-default}
 use lib.Dec.{ltb, leb, eqb}
-use borrow.Author.Tests.{ltb-true, ltb-false, leb-true, eqb-true, lt-ltb, eq-eqb, not-true}
-use Rattle.terms.specs.Base.{pick, also}
-use Rattle.terms.specs.Line.{bitOf}
+use borrow.Author.Tests.{ltb-true, ltb-false, leb-true, eqb-true, eq-eqb, not-true}
+use Rattle.terms.specs.Base.{also}
 use Rattle.terms.proofs.Meaning.{also-left, also-right, also-both}
-use Rattle.model.specs.Records.{threadIn}
 use Rattle.model.specs.declared.records.Model.{Model}
 use Rattle.model.proofs.Tests.{both-pass, pick-yes, pick-no}
-use Rattle.state.specs.Slot.{slotIn, packSlot, slotAt}
+use Rattle.state.specs.Slot.{slotIn, packSlot}
 use Rattle.state.specs.Lock.{lockIn, packLock}
-use Rattle.state.specs.Reset.{isOn}
-use Rattle.state.specs.FrameSound.{oneOn, liveOn, listedOn, mostOn, ThreadSound, SlotSound, LockSound, FrameSound}
+use Rattle.state.specs.FrameSound.{liveOn, mostOn, ThreadSound, SlotSound, LockSound, FrameSound}
 use Rattle.state.specs.declared.slot.Slot.{Slot}
 use Rattle.state.specs.declared.control.Frame.{Frame}
 use Rattle.state.specs.declared.control.Control.{Control}
 use Rattle.state.proofs.Threads.{none-sound, never, zero-live}
 use Rattle.state.proofs.Holds.{free-lock}
-use Rattle.audit.specs.Configuration.{countersSound, threadFits, slotSound, slotsSound, lockSound, locksSound, sameSerial, newSerial, serialsDiffer, liveCount, listedThere, listedCount, mostOf, machineFits, threadsFit, tableSound, varsSound, valuesSound, soundControl}
-use Rattle.audit.specs.Each.{countFrom}
-use Rattle.audit.proofs.Laws.{each-at}
+use Rattle.state.proofs.Frame.{slot-there}
+use Rattle.audit.specs.Configuration.{countersSound, threadFits, slotSound, slotsSound, lockSound, locksSound, sameSerial, newSerial, serialsDiffer, machineFits, threadsFit, tableSound, varsSound, valuesSound, soundControl}
+use Rattle.terms.proofs.Each.{each-at}
 
 module _ (m : Model) (next : ℕ) where
   thread-right : (s : Slot) → threadFits s next (m .lengths) (m .programs) (m .«machine_count») ≡ true → ThreadSound m next s
@@ -101,10 +96,6 @@ module _ (m : Model) (next : ℕ) (l : List ℕ) where
 
 -- "live ones different"
 module _ (l : List ℕ) where
-  slot-there : (i : ℕ) → i < 12 → slotAt l i ≡ slotIn (getD l i 0)
-  unfolding slotAt
-  slot-there i h = rw (lt-ltb i 12 h)
-
   same : (i j : ℕ) → slotIn (getD l i 0) .live ≡ true → slotIn (getD l j 0) .live ≡ true
       → slotIn (getD l i 0) .serial ≡ slotIn (getD l j 0) .serial → sameSerial (slotIn (getD l i 0)) (slotIn (getD l j 0)) ≡ true
   unfolding sameSerial
@@ -113,7 +104,7 @@ module _ (l : List ℕ) where
   differ-right : serialsDiffer l ≡ true → (i j : ℕ) → i < j → j < 12 → sameSerial (slotIn (getD l i 0)) (slotIn (getD l j 0)) ≡ false
   unfolding serialsDiffer newSerial
   differ-right e i j h g =
-      rw (← (slot-there i (omega arith)), ← (slot-there j g)) (not-true _ (each-at j _ (each-at 12 _ e j g) i h))
+      rw (← (slot-there l i (omega arith)), ← (slot-there l j g)) (not-true _ (each-at j _ (each-at 12 _ e j g) i h))
 
   pub serials-right : serialsDiffer l ≡ true → (i j : ℕ) → i < 12 → j < 12 → slotIn (getD l i 0) .live ≡ true → slotIn (getD l j 0) .live ≡ true
       → slotIn (getD l i 0) .serial ≡ slotIn (getD l j 0) .serial → i ≡ j
@@ -124,73 +115,11 @@ module _ (l : List ℕ) where
       by false true p q = absurd (never _ (same j i b a (sym e)) (differ-right d j i (ltb-true j i q) h))
       by false false p q = omega (arith, ltb-false i j p, ltb-false j i q)
 
--- the count of the live threads of a machine is the frame's
-bit-one : (b : Bool) → bitOf b ≡ pick b 1 0
-bit-one true = refl
-bit-one false = refl
-
-module _ (k : ℕ) (l : List ℕ) where
-  live-from : (n i : ℕ) → i + n ≡ length l → countFrom n i (λ j. isOn (getD l j 0) k) ≡ liveOn k (drop i l)
-  unfolding countFrom liveOn oneOn
-  live-from zero i h = rw (drop-of-length-le l {i = i} (omega arith))
-  live-from (suc n) i h =
-      let e : drop i l ≡ getD l i 0 ∷ drop (suc i) l = drop-cons l i 0 (omega arith) in
-      let ih : countFrom n (i + 1) (λ j. isOn (getD l j 0) k) ≡ liveOn k (drop (i + 1) l) = live-from n (i + 1) (omega arith) in
-      rw (e, ih, bit-one (isOn (getD l i 0) k), add-one)
-
-  pub live-right : length l ≡ 12 → liveCount l k ≡ liveOn k l
-  unfolding liveCount
-  live-right h = live-from 12 0 (omega (arith, h))
-
--- and so is the count of the listed ones
-module _ (k c : ℕ) (l : List ℕ) where
-  none-left : (i : ℕ) → length (take c l) ≤ i → listedOn k (drop i (take c l)) ≡ 0
-  unfolding listedOn
-  none-left i h = rw (drop-of-length-le (take c l) {i = i} h)
-
-  one-more : (i : ℕ) → i < c → i < length l
-      → listedOn k (drop i (take c l)) ≡ pick (eqb (threadIn (getD l i 0) .machine) k) 1 0 + listedOn k (drop (i + 1) (take c l))
-  unfolding listedOn
-  one-more i h g =
-      let t : i < length (take c l) = omega (arith, length-take c l) in
-      rw (drop-cons (take c l) i 0 t, getD-take c l i 0 h, add-one)
-
-  listed-from : (n i : ℕ) → i + n ≡ length l → countFrom n i (λ j. listedThere (getD l j 0) (ltb j c) k) ≡ listedOn k (drop i (take c l))
-  unfolding countFrom listedThere
-  listed-from zero i h = sym (none-left i (omega (arith, length-take c l)))
-  listed-from (suc n) i h = by (ltb i c) refl (listed-from n (i + 1) (omega arith))
-    where
-      by : (b : Bool) → ltb i c ≡ b
-          → countFrom n (i + 1) (λ j. listedThere (getD l j 0) (ltb j c) k) ≡ listedOn k (drop (i + 1) (take c l))
-          → bitOf (also (ltb i c) (eqb (threadIn (getD l i 0) .machine) k)) + countFrom n (i + 1) (λ j. listedThere (getD l j 0) (ltb j c) k)
-          ≡ listedOn k (drop i (take c l))
-      by true e ih = rw (e, one-more i (ltb-true i c e) (omega arith), ih, bit-one (eqb (threadIn (getD l i 0) .machine) k))
-      by false e ih =
-          let a = none-left i (omega (arith, length-take c l, ltb-false i c e)) in
-          let b = none-left (i + 1) (omega (arith, length-take c l, ltb-false i c e)) in
-          rw (e, a, ih, b)
-
-  pub listed-right : length l ≡ 8 → listedCount l c k ≡ listedOn k (take c l)
-  unfolding listedCount
-  listed-right h = listed-from 8 0 (omega (arith, h))
-
-most-right : (x : ℕ) → mostOf x ≤ max 1 x
-unfolding mostOf
-most-right x = by (eqb x 0)
-  where
-    by : (b : Bool) → pick b 1 x ≤ max 1 x
-    by true = omega arith
-    by false = omega arith
-
 -- "live threads per machine at most the listed number, or 1 if none was listed"
-pub fit-right : (m : Model) (l : List ℕ) → length l ≡ 12 → length (m .threads) ≡ 8 → threadsFit l (m .threads) (m .«thread_count») ≡ true
+pub fit-right : (m : Model) (l : List ℕ) → threadsFit l (m .threads) (m .«thread_count») ≡ true
     → (k : ℕ) → k < 4 → liveOn k l ≤ mostOn m k
-unfolding threadsFit machineFits mostOn
-fit-right m l g t e k h =
-    let a = leb-true (liveCount l k) (mostOf (listedCount (m .threads) (m .«thread_count») k)) (each-at 4 _ e k h) in
-    let b : liveOn k l ≤ mostOf (listedCount (m .threads) (m .«thread_count») k) = rw (← (live-right k l g)) a in
-    let d : listedCount (m .threads) (m .«thread_count») k ≡ listedOn k (take (m .«thread_count») (m .threads)) = listed-right k (m .«thread_count») (m .threads) t in
-    omega (arith, b, d, most-right (listedCount (m .threads) (m .«thread_count») k))
+unfolding threadsFit machineFits
+fit-right m l e k h = leb-true (liveOn k l) (mostOn m k) (each-at 4 _ e k h)
 
 -- a live thread stands in one of the twelve slots
 live-below : (l : List ℕ) → length l ≡ 12 → (i : ℕ) → slotIn (getD l i 0) .live ≡ true → i < 12
@@ -201,19 +130,19 @@ live-below l h i e = by (ltb i 12) refl
     by false t = absurd (zero-live (rw (List·getD-eq-default l 0 {n = i} (omega (arith, h, ltb-false i 12 t))) at e))
 
 -- the tests of the frame say that it is sound
-pub frame-right : (m : Model) (f : Frame) → length (f .slots) ≡ 12 → length (f .locks) ≡ 32 → length (m .threads) ≡ 8
+pub frame-right : (m : Model) (f : Frame) → length (f .slots) ≡ 12 → length (f .locks) ≡ 32
     → countersSound f ≡ true
     → slotsSound (f .slots) (f .serial) (m .lengths) (m .programs) (m .«machine_count») ≡ true
     → serialsDiffer (f .slots) ≡ true
     → locksSound (f .locks) (f .serial) (m .«location_count») ≡ true
     → threadsFit (f .slots) (m .threads) (m .«thread_count») ≡ true
     → FrameSound m f
-frame-right m f h g t counters slots differ locks fit = record {
+frame-right m f h g counters slots differ locks fit = record {
   slots = record {
     long = h;
     each = slots-right m (f .serial) (f .slots) h slots;
     differ = λ i j a b e. serials-right (f .slots) differ i j (live-below (f .slots) h i a) (live-below (f .slots) h j b) a b e;
-    fit = fit-right m (f .slots) h t fit;
+    fit = fit-right m (f .slots) fit;
   };
   locks = record { long = g; each = locks-right m (f .serial) (f .locks) g locks };
   steps = steps-right f counters;
@@ -222,10 +151,10 @@ frame-right m f h g t counters slots differ locks fit = record {
 }
 
 -- a configuration that passes the test has a sound frame
-pub control-right : (m : Model) (l : List ℕ) (s : Control) → length (s .frame .slots) ≡ 12 → length (s .frame .locks) ≡ 32 → length (m .threads) ≡ 8
+pub control-right : (m : Model) (l : List ℕ) (s : Control) → length (s .frame .slots) ≡ 12 → length (s .frame .locks) ≡ 32
     → soundControl m l s ≡ true → FrameSound m (s .frame)
 unfolding soundControl
-control-right m l s h g t e =
+control-right m l s h g e =
     let f = s .frame in
     let p1 = tableSound m l (s .count) (f .nonce) in
     let p2 = countersSound f in
@@ -242,4 +171,4 @@ control-right m l s h g t e =
     let e5 = also-right p4 q5 e4 in
     let e6 = also-right p5 q6 e5 in
     let e7 = also-right p6 q7 e6 in
-    frame-right m f h g t (also-left p2 q3 e2) (also-left p3 q4 e3) (also-left p4 q5 e4) (also-left p6 q7 e6) (also-right p7 p8 e7)
+    frame-right m f h g (also-left p2 q3 e2) (also-left p3 q4 e3) (also-left p4 q5 e4) (also-left p6 q7 e6) (also-right p7 p8 e7)

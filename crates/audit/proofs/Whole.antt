@@ -1,29 +1,29 @@
 -- The test that the code runs over a configuration says exactly that the configuration is sound. So what is proved of
 -- sound configurations holds of every one that the code has let through, and no sound one is turned away.
-use Prim.Native.Nat.{ℕ, _<_, _≤_, max}
+use Prim.Native.Nat.{ℕ, _<_, _≤_}
 use mathlib.Core.Path.{_≡_, refl}
 use mathlib.Core.Bool.{Bool, true, false, not}
 use mathlib.Core.List.{List}
 use native.Mathlib.Omega.{arith}
-use lib.ListN.{length, getD, take, List·getD-eq-default}
-use lib.Dec.{ltb, leb, eqb}
-use borrow.Author.Tests.{ltb-true, ltb-false, eqb-true, eqb-false, lt-ltb, le-leb, eq-eqb}
-use Rattle.terms.specs.Base.{pick, also}
+use lib.ListN.{getD, List·getD-eq-default}
+use lib.Dec.{ltb, eqb}
+use borrow.Author.Tests.{ltb-true, ltb-false, eqb-true, lt-ltb, le-leb, eq-eqb}
+use Rattle.terms.specs.Base.{also}
 use Rattle.terms.proofs.Meaning.{also-left, also-right, also-both}
 use Rattle.model.specs.Records.{lengthAt}
 use Rattle.model.specs.declared.records.Model.{Model}
 use Rattle.model.proofs.Tests.{pass-by}
 use Rattle.state.specs.Slot.{slotIn, packSlot, slotAt}
 use Rattle.state.specs.Lock.{lockIn, packLock}
-use Rattle.state.specs.FrameSound.{liveOn, listedOn, mostOn, ThreadSound, SlotSound, SlotsSound, LockSound, FrameSound, Grounds}
+use Rattle.state.specs.FrameSound.{liveOn, mostOn, ThreadSound, SlotSound, SlotsSound, LockSound, FrameSound, Grounds}
 use Rattle.state.specs.declared.slot.Slot.{Slot}
 use Rattle.state.specs.declared.control.Frame.{Frame}
 use Rattle.state.specs.declared.control.Control.{Control}
 use Rattle.state.proofs.Frame.{slot-there}
 use Rattle.audit.specs.Sound.{SoundModel}
-use Rattle.audit.specs.Configuration.{tableSound, countersSound, threadFits, slotSound, slotsSound, sameSerial, newSerial, serialsDiffer, varsSound, lockSound, locksSound, valuesSound, liveCount, listedCount, mostOf, machineFits, threadsFit, soundControl}
-use Rattle.audit.proofs.Laws.{at-each}
-use Rattle.audit.proofs.Standing.{live-right, listed-right, control-right}
+use Rattle.audit.specs.Configuration.{tableSound, countersSound, threadFits, slotSound, slotsSound, sameSerial, newSerial, serialsDiffer, varsSound, lockSound, locksSound, valuesSound, machineFits, threadsFit, soundControl}
+use Rattle.terms.proofs.Each.{at-each}
+use Rattle.audit.proofs.Standing.{control-right}
 use Rattle.audit.specs.Whole.{Arrays, Lengths, SoundConfig}
 use Rattle.audit.proofs.Parts.{terms-right, terms-pass, values-right, values-pass, vars-right, vars-pass}
 
@@ -100,29 +100,10 @@ differ-pass m most next l s = at-each 12 _ (λ i h. at-each i _ (λ j g. other-b
         let z : j ≡ i = s .differ j i (t .0) (t .1) (t .2) in
         omega arith
 
--- "at most the listed number, or 1 if none was listed"
-most-pass : (x : ℕ) → max 1 x ≤ mostOf x
-unfolding mostOf
-most-pass x = by (eqb x 0) refl
-  where
-    by : (b : Bool) → eqb x 0 ≡ b → max 1 x ≤ pick b 1 x
-    by true e = omega (arith, eqb-true x 0 e)
-    by false e = some (eqb-false x 0 e)
-      where
-        some : (x ≡ 0 → ⊥) → max 1 x ≤ x
-        some f = omega arith
-
-fit-pass : (m : Model) (l : List ℕ) → length l ≡ 12 → length (m .threads) ≡ 8 → ((k : ℕ) → k < 4 → liveOn k l ≤ mostOn m k)
-    → threadsFit l (m .threads) (m .«thread_count») ≡ true
-unfolding threadsFit machineFits mostOn
-fit-pass m l g t f = at-each 4 _ one
-  where
-    one : (k : ℕ) → k < 4 → leb (liveCount l k) (mostOf (listedCount (m .threads) (m .«thread_count») k)) ≡ true
-    one k h =
-        let n : ℕ = listedCount (m .threads) (m .«thread_count») k in
-        let a : liveCount l k ≡ liveOn k l = live-right k l g in
-        let d : n ≡ listedOn k (take (m .«thread_count») (m .threads)) = listed-right k (m .«thread_count») (m .threads) t in
-        le-leb (liveCount l k) (mostOf n) (omega (arith, a, d, f k h, most-pass n))
+-- "live threads per machine at most the listed number, or 1 if none was listed"
+fit-pass : (m : Model) (l : List ℕ) → ((k : ℕ) → k < 4 → liveOn k l ≤ mostOn m k) → threadsFit l (m .threads) (m .«thread_count») ≡ true
+unfolding threadsFit machineFits
+fit-pass m l f = at-each 4 _ (λ k h. le-leb (liveOn k l) (mostOn m k) (f k h))
 
 counters-pass : (m : Model) (f : Frame) → FrameSound m f → countersSound f ≡ true
 unfolding countersSound
@@ -150,7 +131,7 @@ test-control {m} {l} {s} M A L e =
     let e7 = also-right p6 q7 e6 in
     let T = terms-right m l (s .count) (f .nonce) (L .lines) (also-left p1 (also p2 q3) e) in
     record {
-      frame = control-right m l s (L .slots) (L .locks) (A .threads) e;
+      frame = control-right m l s (L .slots) (L .locks) e;
       terms = T;
       values = values-right (T .table) (T .long) m (s .values) (L .values) (M .most-locations) (also-left p7 p8 e7);
       vars = vars-right (T .table) (T .long) (f .slots) (s .vars) (L .vars) (also-left p5 q6 e5);
@@ -170,4 +151,4 @@ control-test {m} {l} {s} A S =
     (also-both (vars-pass (T .table) (T .long) (f .slots) (s .vars) (S .vars))
     (also-both (locks-pass m (f .serial) (f .locks) (F .locks .each))
     (also-both (values-pass (T .table) (T .long) m (s .values) (S .values))
-    (fit-pass m (f .slots) (F .slots .long) (A .threads) (F .slots .fit))))))))
+    (fit-pass m (f .slots) (F .slots .fit))))))))

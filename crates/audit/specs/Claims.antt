@@ -6,7 +6,7 @@ use lib.ListN.{getD}
 use lib.Dec.{eqb, ltb, leb}
 use Rattle.terms.specs.Base.{pick, also}
 use Rattle.model.specs.declared.records.Claim.{Claim}
-use Rattle.audit.specs.Each.{each}
+use Rattle.terms.specs.Each.{each}
 
 unfoldable pub pathProgram : ℕ → Bool → ℕ → Bool
 pathProgram p listed programs = pick listed (ltb p programs) (eqb p 0)

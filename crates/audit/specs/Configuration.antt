@@ -3,20 +3,20 @@
 use Prim.Native.Nat.{ℕ, _+_, _/_, _%_}
 use mathlib.Core.Bool.{Bool, not}
 use mathlib.Core.List.{List}
-use lib.ListN.{getD}
+use lib.ListN.{getD, take}
 use lib.Dec.{eqb, ltb, leb}
 use Rattle.terms.specs.Base.{pick, also}
 use Rattle.terms.specs.Line.{lineAt, termIn}
 use Rattle.terms.specs.Sound.{soundTest}
-use Rattle.model.specs.Records.{lengthAt, threadIn}
+use Rattle.model.specs.Records.{lengthAt}
 use Rattle.model.specs.declared.records.Model.{Model}
 use Rattle.state.specs.Slot.{slotIn, packSlot, slotAt}
 use Rattle.state.specs.Lock.{lockIn, packLock}
-use Rattle.state.specs.Reset.{isOn}
+use Rattle.state.specs.FrameSound.{liveOn, mostAmong}
 use Rattle.state.specs.declared.slot.Slot.{Slot}
 use Rattle.state.specs.declared.control.Frame.{Frame}
 use Rattle.state.specs.declared.control.Control.{Control}
-use Rattle.audit.specs.Each.{each, count}
+use Rattle.terms.specs.Each.{each}
 use Rattle.audit.specs.Listed.{storedValue}
 use Rattle.audit.specs.Models.{namesProgram}
 
@@ -26,7 +26,7 @@ beginsWith l known n = each n (λ i. eqb (lineAt l i) (lineAt known i))
 
 -- "nonces below the next"; a code term names a program
 unfoldable pub leafSound : ℕ → ℕ → ℕ → Bool
-leafSound n programs nonce = pick (eqb (termIn n .kind) 7) (ltb (termIn n .a) nonce) (namesProgram n programs)
+leafSound n programs nonce = pick (eqb (termIn n .kind) 7) (ltb (termIn n .a) nonce) (namesProgram (termIn n) programs)
 
 unfoldable pub leavesSound : List ℕ → ℕ → ℕ → ℕ → Bool
 leavesSound l n programs nonce = each n (λ i. leafSound (lineAt l i) programs nonce)
@@ -103,24 +103,9 @@ valueSound v l n listed = pick listed (storedValue l n v) (eqb v 0)
 unfoldable pub valuesSound : List ℕ → List ℕ → ℕ → ℕ → Bool
 valuesSound values l n locs = each 32 (λ i. valueSound (getD values i 0) l n (ltb i locs))
 
--- how many live threads machine k has
-unfoldable pub liveCount : List ℕ → ℕ → ℕ
-liveCount slots k = count 12 (λ i. isOn (getD slots i 0) k)
-
--- how many of the listed threads are on machine k
-unfoldable pub listedThere : ℕ → Bool → ℕ → Bool
-listedThere n listed k = also listed (eqb (threadIn n .machine) k)
-
-unfoldable pub listedCount : List ℕ → ℕ → ℕ → ℕ
-listedCount threads listed k = count 8 (λ i. listedThere (getD threads i 0) (ltb i listed) k)
-
--- "at most the listed number, or 1 if none was listed"
-unfoldable pub mostOf : ℕ → ℕ
-mostOf n = pick (eqb n 0) 1 n
-
--- "live threads per machine at most .."
+-- "live threads per machine at most the listed number, or 1 if none was listed"
 unfoldable pub machineFits : List ℕ → List ℕ → ℕ → ℕ → Bool
-machineFits slots threads listed k = leb (liveCount slots k) (mostOf (listedCount threads listed k))
+machineFits slots threads listed k = leb (liveOn k slots) (mostAmong (take listed threads) k)
 
 unfoldable pub threadsFit : List ℕ → List ℕ → ℕ → Bool
 threadsFit slots threads listed = each 4 (λ k. machineFits slots threads listed k)

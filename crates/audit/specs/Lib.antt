@@ -1,5 +1,6 @@
--- What the contracts of this crate cite, beside document 01: 'Sound means', for what a model lists. To be read in this order.
-pub mod Each
+-- What the contracts of this crate cite, beside document 01: 'Sound means', the test for what a model lists (Models) and for a
+-- configuration (Configuration), and each said as facts (Sound, Whole). To be read in this order. Bare is the model that
+-- document 01 lists whole.
 pub mod Tops
 pub mod Programs
 pub mod Listed
@@ -8,3 +9,4 @@ pub mod Models
 pub mod Sound
 pub mod Configuration
 pub mod Whole
+pub mod Bare

@@ -9,7 +9,7 @@ use Rattle.terms.specs.Line.{lineAt, groundIn}
 use Rattle.model.specs.Records.{packMachine, machineIn, packLocation, locationIn, packThread, threadIn}
 use Rattle.model.specs.Fields.{either, isMemory}
 use Rattle.model.specs.declared.records.Model.{Model}
-use Rattle.audit.specs.Each.{each}
+use Rattle.terms.specs.Each.{each}
 
 -- "M machine boot launch protected": both programs are listed
 unfoldable pub machineSound : ℕ → Bool → ℕ → Bool

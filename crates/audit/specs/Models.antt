@@ -6,19 +6,20 @@ use lib.Dec.{eqb, ltb}
 use Rattle.terms.specs.Base.{pick, also}
 use Rattle.terms.specs.Line.{lineAt, termIn}
 use Rattle.terms.specs.Sound.{soundTest}
+use Rattle.terms.specs.declared.term.Term.{Term}
 use Rattle.model.specs.declared.records.Model.{Model}
-use Rattle.audit.specs.Each.{allFrom}
+use Rattle.terms.specs.Each.{allFrom}
 use Rattle.audit.specs.Programs.{programsSound}
 use Rattle.audit.specs.Listed.{machinesSound, locationsSound, threadsSound}
 use Rattle.audit.specs.Claims.{claimSound}
 
 -- a code term names one of the programs (23)
-unfoldable pub namesProgram : ℕ → ℕ → Bool
-namesProgram n programs = pick (eqb (termIn n .kind) 8) (ltb (termIn n .a) programs) true
+unfoldable pub namesProgram : Term → ℕ → Bool
+namesProgram x programs = pick (eqb (x .kind) 8) (ltb (x .a) programs) true
 
 -- "Kinds 1, 2, 7 cannot be listed (25)"; sinit and dinit are fixed terms, which a sound table has once
 unfoldable pub mayBeListed : ℕ → ℕ → Bool
-mayBeListed n programs = also (not (eqb (termIn n .kind) 7)) (namesProgram n programs)
+mayBeListed n programs = also (not (eqb (termIn n .kind) 7)) (namesProgram (termIn n) programs)
 
 -- labels from 3 on
 unfoldable pub termsListed : List ℕ → ℕ → ℕ → Bool

@@ -1,33 +1,22 @@
 -- "At most 32 programs of 1 to 16 actions", and what is asked of each action that a model lists.
-use Prim.Native.Nat.{ℕ, _+_, _*_}
-use mathlib.Core.Bool.{Bool, true, false, not}
+use Prim.Native.Nat.{ℕ, _+_}
+use mathlib.Core.Bool.{Bool, true, not}
 use mathlib.Core.List.{List}
-use lib.ListN.{getD}
 use lib.Dec.{eqb, ltb, leb}
 use Rattle.terms.specs.Base.{pick, also}
-use Rattle.model.specs.Records.{packAction, actionIn, lengthAt, locationAt}
-use Rattle.model.specs.Fields.{locOf, closing, inForm, kindFits}
+use Rattle.model.specs.Records.{packAction, actionIn, actionNumber, lengthAt, locationAt}
+use Rattle.model.specs.Fields.{namesLocation, closing, inForm, kindFits}
 use Rattle.model.specs.declared.records.Action.{Action}
 use Rattle.model.specs.declared.records.Model.{Model}
-use Rattle.model.specs.declared.fields.Loc.{Loc}
-use Rattle.model.specs.declared.fields.Loc.the-variants.{Any, Memory, Register, Function, Unused}
-use Rattle.audit.specs.Each.{each}
+use Rattle.terms.specs.Each.{each}
 use Rattle.audit.specs.Tops.{topAt, topsOf}
 
 -- the location is listed (23), and of a kind that fits (25)
 unfoldable pub listedAndFits : List ℕ → Action → ℕ → Bool
 listedAndFits ls a count = also (ltb (a .loc) count) (kindFits (a .op) (locationAt ls (a .loc) .kind))
 
--- where the loc field is a location's number
-abbrev pub namesLocation : Loc → Bool
-namesLocation Any = true
-namesLocation Memory = true
-namesLocation Register = true
-namesLocation Function = false
-namesLocation Unused = false
-
 unfoldable pub locFits : List ℕ → Action → ℕ → Bool
-locFits ls a count = pick (namesLocation (locOf (a .op))) (listedAndFits ls a count) true
+locFits ls a count = pick (namesLocation (a .op)) (listedAndFits ls a count) true
 
 -- "a reference past its limit, or a variable of the same or a later action, is 23": a label below the count, its variables below k
 unfoldable pub operandFits : List ℕ → ℕ → ℕ → ℕ → Bool
@@ -41,7 +30,7 @@ actionFits a ls ks k locs count =
     (also (operandFits ks (a .x) k count)
     (operandFits ks (a .y) k count)))
 
--- "an action after op 19 or 20 is 21"
+-- "an action after op 19 or 20, is 21"
 unfoldable pub lastIfClosing : ℕ → ℕ → ℕ → Bool
 lastIfClosing op k length = pick (closing op) (eqb (k + 1) length) true
 
@@ -53,12 +42,8 @@ actionSound n ls ks k length locs count =
     (also (lastIfClosing (actionIn n .op) k length)
     (actionFits (actionIn n) ls ks k locs count)))
 
--- the number of action k of program p
-unfoldable pub numberOf : List ℕ → ℕ → ℕ → ℕ
-numberOf acts p k = pick (ltb (p * 16 + k) 512) (getD acts (p * 16 + k) 0) 0
-
 unfoldable pub actionsSound : List ℕ → List ℕ → List ℕ → ℕ → ℕ → ℕ → ℕ → Bool
-actionsSound acts ls ks p length locs count = each 16 (λ k. actionSound (numberOf acts p k) ls ks k length locs count)
+actionsSound acts ls ks p length locs count = each 16 (λ k. actionSound (actionNumber acts p k) ls ks k length locs count)
 
 -- "programs of 1 to 16 actions"; past the number of programs there is none
 unfoldable pub lengthFits : ℕ → ℕ → ℕ → Bool
@@ -75,7 +60,7 @@ eachProgram m ks = each 32 (λ p. programSound m ks p)
 
 -- "a program's actions, twice" is 24
 unfoldable pub equalActions : List ℕ → ℕ → ℕ → Bool
-equalActions acts q p = each 16 (λ k. eqb (numberOf acts q k) (numberOf acts p k))
+equalActions acts q p = each 16 (λ k. eqb (actionNumber acts q k) (actionNumber acts p k))
 
 unfoldable pub equalPrograms : List ℕ → List ℕ → ℕ → ℕ → Bool
 equalPrograms acts ns q p = also (eqb (lengthAt ns q) (lengthAt ns p)) (equalActions acts q p)

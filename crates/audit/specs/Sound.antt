@@ -1,4 +1,4 @@
--- The same said as facts: what a sound model is. `test-model` and `model-test` of proofs/Check.antt tie the two.
+-- The test of Models said as facts: what a sound model is. `test-model` and `model-test` of proofs/Check.antt tie the two.
 use Prim.Native.Nat.{ℕ, _+_, _<_, _≤_}
 use mathlib.Core.Path.{_≡_}
 use mathlib.Core.Bool.{true, false}
@@ -7,13 +7,13 @@ use Rattle.terms.specs.Line.{termAt}
 use Rattle.terms.specs.Tree.{isGround}
 use Rattle.terms.specs.Meaning.{treeOf}
 use Rattle.terms.specs.Sound.{Sound}
-use Rattle.model.specs.Records.{packAction, packMachine, packLocation, packThread, actionAt, lengthAt, machineAt, locationAt, threadAt}
-use Rattle.model.specs.Fields.{locOf, closing, inForm, kindFits, isMemory}
+use Rattle.model.specs.Records.{packAction, packMachine, packLocation, packThread, actionNumber, actionAt, lengthAt, machineAt, locationAt, threadAt}
+use Rattle.model.specs.Fields.{namesLocation, closing, inForm, kindFits, isMemory}
 use Rattle.model.specs.declared.records.Action.{Action}
 use Rattle.model.specs.declared.records.Claim.{Claim}
 use Rattle.model.specs.declared.records.Model.{Model}
 use Rattle.audit.specs.Tops.{topmost}
-use Rattle.audit.specs.Programs.{namesLocation, numberOf, equalPrograms}
+use Rattle.audit.specs.Programs.{equalPrograms}
 
 -- an operand of action k: a listed term, whose variables are all of earlier actions
 pub record FitOperand (m : Model) (k label : ℕ) : Type 0 where
@@ -31,7 +31,7 @@ pub record FitAction (m : Model) (k length : ℕ) (a : Action) : Type 0 where
   pub form : inForm a ≡ true
   -- no action after a jump or a late launch
   pub last : closing (a .op) ≡ true → k + 1 ≡ length
-  pub loc : namesLocation (locOf (a .op)) ≡ true → FitLoc m a
+  pub loc : namesLocation (a .op) ≡ true → FitLoc m a
   pub x : FitOperand m k (a .x)
   pub y : FitOperand m k (a .y)
 
@@ -39,7 +39,7 @@ pub record FitAction (m : Model) (k length : ℕ) (a : Action) : Type 0 where
 pub record FitProgram (m : Model) (p : ℕ) : Type 0 where
   pub some : 1 ≤ lengthAt (m .lengths) p
   pub most : lengthAt (m .lengths) p ≤ 16
-  pub exact : (k : ℕ) → k < lengthAt (m .lengths) p → packAction (actionAt (m .actions) p k) ≡ numberOf (m .actions) p k
+  pub exact : (k : ℕ) → k < lengthAt (m .lengths) p → packAction (actionAt (m .actions) p k) ≡ actionNumber (m .actions) p k
   pub actions : (k : ℕ) → k < lengthAt (m .lengths) p → FitAction m k (lengthAt (m .lengths) p) (actionAt (m .actions) p k)
   pub new : (q : ℕ) → q < p → equalPrograms (m .actions) (m .lengths) q p ≡ false
 
@@ -73,7 +73,7 @@ pub record FitClaim (m : Model) (c : Claim) : Type 0 where
 -- whatever stands past a count is 0
 pub record ZeroPast (m : Model) : Type 0 where
   pub lengths : (p : ℕ) → m .programs ≤ p → lengthAt (m .lengths) p ≡ 0
-  pub actions : (p k : ℕ) → p < 32 → lengthAt (m .lengths) p ≤ k → k < 16 → numberOf (m .actions) p k ≡ 0
+  pub actions : (p k : ℕ) → p < 32 → lengthAt (m .lengths) p ≤ k → k < 16 → actionNumber (m .actions) p k ≡ 0
   pub machines : (i : ℕ) → m .«machine_count» ≤ i → i < 4 → getD (m .machines) i 0 ≡ 0
   pub locations : (i : ℕ) → m .«location_count» ≤ i → i < 32 → getD (m .locations) i 0 ≡ 0
   pub threads : (i : ℕ) → m .«thread_count» ≤ i → i < 8 → getD (m .threads) i 0 ≡ 0

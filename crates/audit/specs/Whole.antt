@@ -1,5 +1,5 @@
--- The same said as facts: what a sound configuration of a sound model is, clause by clause of 'Sound means'. The frame's
--- clauses are state's FrameSound. `test-control` and `control-test` of proofs/Whole.antt tie the two.
+-- The test of Configuration said as facts: what a sound configuration of a sound model is, clause by clause of 'Sound means'.
+-- The frame's clauses are state's FrameSound. `test-control` and `control-test` of proofs/Whole.antt tie the two.
 use Prim.Native.Nat.{ℕ, _+_, _*_, _<_, _≤_}
 use mathlib.Core.Path.{_≡_}
 use mathlib.Core.Bool.{true, false}

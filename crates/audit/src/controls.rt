@@ -3,7 +3,6 @@
 use crate::listed::stored_value;
 use crate::models::names_program;
 use model::records::Model;
-use model::records::flag;
 use model::records::length_at;
 use model::records::thread_in;
 use state::control::Control;
@@ -15,12 +14,19 @@ use state::slot::Slot;
 use state::slot::pack_slot;
 use state::slot::slot_at;
 use state::slot::slot_in;
+use terms::line::bit;
 use terms::line::line_at;
 use terms::line::term_in;
 use terms::sound::sound;
 use terms::term::both;
+ghost use Prim.Native.Nat.{max};
 ghost use mathlib.Core.Path.{_≡_};
-ghost use Rattle.audit.specs.Configuration.{soundControl, tableSound, beginsWith, leavesSound, leafSound, countersSound, slotsSound, slotSound, threadFits, serialsDiffer, newSerial, sameSerial, varsSound, varSound, isBound, locksSound, lockSound, valuesSound, valueSound, threadsFit, machineFits, mostOf, listedCount, listedThere, liveCount};
+ghost use lib.ListN.{take};
+ghost use lib.Dec.{eqb};
+ghost use Rattle.terms.specs.Base.{also};
+ghost use Rattle.model.specs.Records.{threadIn};
+ghost use Rattle.state.specs.FrameSound.{liveOn, listedOn};
+ghost use Rattle.audit.specs.Configuration.{soundControl, tableSound, beginsWith, leavesSound, leafSound, countersSound, slotsSound, slotSound, threadFits, serialsDiffer, newSerial, sameSerial, varsSound, varSound, isBound, locksSound, lockSound, valuesSound, valueSound, threadsFit, machineFits};
 
 pub fn sound_control(m: Model, t: &[u64; 512], s: Control) -> bool
     ensures { λ r. ⌜ r ≡ soundControl m (now (t .entry)) s ⌝ }
@@ -107,7 +113,7 @@ fn leaf_sound(n: u64, programs: u8, nonce: u16) -> bool
     if x.kind == 7 {
         return x.a < nonce;
     }
-    names_program(n, programs)
+    names_program(x, programs)
 }
 
 fn counters_sound(f: Frame) -> bool
@@ -116,7 +122,7 @@ fn counters_sound(f: Frame) -> bool
     if Control::STEPS < f.steps {
         return false;
     }
-    let most = 8 + f.steps as u32;
+    let most = Model::THREADS as u32 + f.steps as u32;
     if most < f.serial as u32 {
         return false;
     }
@@ -156,7 +162,7 @@ fn slot_sound(n: u64, serial: u16, lengths: &[u8; 32], programs: u8, machines: u
     thread_fits(s, serial, lengths, programs, machines)
 }
 
-// A live thread stands before its program's end.
+// A live thread: its serial is below the next, its machine and program are listed, and it stands before its program's end.
 fn thread_fits(s: Slot, serial: u16, lengths: &[u8; 32], programs: u8, machines: u8) -> bool
     ensures { λ r. ⌜ r ≡ threadFits s serial (now (lengths .entry)) programs machines ⌝ }
 {
@@ -313,37 +319,37 @@ fn machine_fits(slots: [u64; 12], threads: [u32; 8], listed: u8, k: u8) -> bool
 }
 
 fn most_of(n: u32) -> u32
-    ensures { λ r. ⌜ r ≡ mostOf n ⌝ }
+    ensures { λ r. ⌜ r ≡ max 1 n ⌝ }
 {
     if n == 0 { 1 } else { n }
 }
 
 fn listed_count(threads: [u32; 8], listed: u8, k: u8) -> u32
-    ensures { λ r. ⌜ r ≡ listedCount threads listed k ⌝ }
+    ensures { λ r. ⌜ r ≡ listedOn k (take listed threads) ⌝ }
 {
     let mut n = 0u32;
     let mut i = 0;
     while i < 8 {
-        n += flag(listed_there(threads[i], i < listed as usize, k));
+        n += bit(listed_there(threads[i], i < listed as usize, k)) as u32;
         i += 1;
     }
     n
 }
 
 fn listed_there(n: u32, listed: bool, k: u8) -> bool
-    ensures { λ r. ⌜ r ≡ listedThere n listed k ⌝ }
+    ensures { λ r. ⌜ r ≡ also listed (eqb (threadIn n .machine) k) ⌝ }
 {
     let l = thread_in(n);
     both(listed, l.machine == k)
 }
 
 fn live_count(slots: [u64; 12], k: u8) -> u32
-    ensures { λ r. ⌜ r ≡ liveCount slots k ⌝ }
+    ensures { λ r. ⌜ r ≡ liveOn k slots ⌝ }
 {
     let mut n = 0u32;
     let mut i = 0;
     while i < 12 {
-        n += flag(is_on(slots[i], k));
+        n += bit(is_on(slots[i], k)) as u32;
         i += 1;
     }
     n

@@ -1,6 +1,6 @@
 // Soundness of a model and of a configuration, for every value of their types.
 //
-//   tops       the highest variable of each listed term
+//   tops       how many variables each listed term asks to be bound
 //   programs   programs and their actions
 //   listed     machines, locations and listed threads
 //   claims     the claim

@@ -9,6 +9,8 @@ use model::records::Model;
 use terms::line::line_at;
 use terms::line::term_in;
 use terms::sound::sound;
+use terms::table::Table;
+use terms::term::Term;
 ghost use mathlib.Core.Path.{_≡_};
 ghost use Rattle.audit.specs.Models.{soundModel, termsListed, mayBeListed, namesProgram};
 
@@ -45,7 +47,7 @@ pub fn sound_model(m: Model) -> bool
 fn terms_listed(t: &[u64; 512], count: u16, programs: u8) -> bool
     ensures { λ r. ⌜ r ≡ termsListed (now (t .entry)) count programs ⌝ }
 {
-    let mut i = 3;
+    let mut i = Table::FIXED;
     while i < count {
         if !may_be_listed(line_at(t, i), programs) {
             return false;
@@ -62,14 +64,13 @@ fn may_be_listed(n: u64, programs: u8) -> bool
     if x.kind == 7 {
         return false;
     }
-    names_program(n, programs)
+    names_program(x, programs)
 }
 
 // A code term names a program; of any other term there is nothing to say.
-pub fn names_program(n: u64, programs: u8) -> bool
-    ensures { λ r. ⌜ r ≡ namesProgram n programs ⌝ }
+pub fn names_program(x: Term, programs: u8) -> bool
+    ensures { λ r. ⌜ r ≡ namesProgram x programs ⌝ }
 {
-    let x = term_in(n);
     if x.kind == 8 {
         x.a < programs as u16
     } else {

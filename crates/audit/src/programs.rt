@@ -2,20 +2,20 @@
 // programs alike.
 use crate::tops::top_at;
 use crate::tops::tops;
-use model::fields::Loc;
 use model::fields::closes;
 use model::fields::in_form;
 use model::fields::kind_fits;
-use model::fields::loc_of;
+use model::fields::names_location;
 use model::records::Action;
 use model::records::Model;
 use model::records::action_in;
+use model::records::action_number;
 use model::records::length_at;
 use model::records::location_at;
 use model::records::pack_action;
 use terms::term::both;
 ghost use mathlib.Core.Path.{_≡_};
-ghost use Rattle.audit.specs.Programs.{programsSound, eachProgram, lengthFits, actionsSound, numberOf, actionSound, actionFits, lastIfClosing, locFits, listedAndFits, operandFits, programsDiffer, newProgram, equalPrograms, equalActions};
+ghost use Rattle.audit.specs.Programs.{programsSound, eachProgram, lengthFits, actionsSound, actionSound, actionFits, lastIfClosing, locFits, listedAndFits, operandFits, programsDiffer, newProgram, equalPrograms, equalActions};
 
 pub fn programs_sound(m: Model) -> bool
     ensures { λ r. ⌜ r ≡ programsSound m ⌝ }
@@ -33,7 +33,7 @@ pub fn programs_sound(m: Model) -> bool
     programs_differ(&m.actions, &m.lengths, m.programs)
 }
 
-fn each_program(m: Model, known: &[u16; 512]) -> bool
+fn each_program(m: Model, known: &[u8; 512]) -> bool
     ensures { λ r. ⌜ r ≡ eachProgram m (now (known .entry)) ⌝ }
 {
     let mut p = 0;
@@ -72,7 +72,7 @@ fn length_fits(p: u8, length: u8, programs: u8) -> bool
 fn actions_sound<'a>(
     actions: &'a [u64; 512],
     locations: &'a [u32; 32],
-    known: &[u16; 512],
+    known: &[u8; 512],
     p: u8,
     length: u8,
     locs: u8,
@@ -82,7 +82,7 @@ fn actions_sound<'a>(
 {
     let mut k = 0;
     while k < 16 {
-        let n = number_of(actions, p, k);
+        let n = action_number(actions, p, k);
         if !action_sound(n, locations, known, k, length, locs, count) {
             return false;
         }
@@ -91,19 +91,11 @@ fn actions_sound<'a>(
     true
 }
 
-// The number of action k of a program.
-fn number_of(actions: &[u64; 512], p: u8, k: u8) -> u64
-    ensures { λ r. ⌜ r ≡ numberOf (now (actions .entry)) p k ⌝ }
-{
-    let i = p as usize * 16 + k as usize;
-    if i < 512 { actions[i] } else { 0 }
-}
-
 // Action k of a program of that length; past it the number is 0.
 fn action_sound(
     n: u64,
     locations: &[u32; 32],
-    known: &[u16; 512],
+    known: &[u8; 512],
     k: u8,
     length: u8,
     locs: u8,
@@ -139,7 +131,7 @@ fn last_if_closing(op: u8, k: u8, length: u8) -> bool
 fn action_fits(
     a: Action,
     locations: &[u32; 32],
-    known: &[u16; 512],
+    known: &[u8; 512],
     k: u8,
     locs: u8,
     count: u16,
@@ -162,13 +154,10 @@ fn action_fits(
 fn loc_fits(locations: &[u32; 32], a: Action, locs: u8) -> bool
     ensures { λ r. ⌜ r ≡ locFits (now (locations .entry)) a locs ⌝ }
 {
-    let l = loc_of(a.op);
-    match l {
-        Loc::Any => listed_and_fits(locations, a, locs),
-        Loc::Memory => listed_and_fits(locations, a, locs),
-        Loc::Register => listed_and_fits(locations, a, locs),
-        Loc::Function => true,
-        Loc::Unused => true,
+    if names_location(a.op) {
+        listed_and_fits(locations, a, locs)
+    } else {
+        true
     }
 }
 
@@ -184,11 +173,11 @@ fn listed_and_fits(locations: &[u32; 32], a: Action, locs: u8) -> bool
 }
 
 // A listed term with no variable of the same or a later action.
-fn operand_fits(known: &[u16; 512], label: u16, k: u8, count: u16) -> bool
+fn operand_fits(known: &[u8; 512], label: u16, k: u8, count: u16) -> bool
     ensures { λ r. ⌜ r ≡ operandFits (now (known .entry)) label k count ⌝ }
 {
     if label < count {
-        top_at(known, label) <= k as u16
+        top_at(known, label) <= k
     } else {
         false
     }
@@ -238,7 +227,7 @@ fn equal_actions(actions: &[u64; 512], q: u8, p: u8) -> bool
 {
     let mut k = 0;
     while k < 16 {
-        if number_of(actions, q, k) != number_of(actions, p, k) {
+        if action_number(actions, q, k) != action_number(actions, p, k) {
             return false;
         }
         k += 1;

@@ -32,12 +32,7 @@ use Rattle.search.proofs.Searched.{same-place, short, tidied-ok}
 use Rattle.search.proofs.Promises.{start-first, start-good, finds-all, tries-all, sizes-all, ends-some-time}
 use Rattle.search.proofs.Listings.{listing-shows, next-tidied}
 use Rattle.facts.specs.Said.{lastPlace, Lists}
-
--- schedules, tries, and tries refused for size
-record Counts : Type 0 where
-  words : List (List ℕ)
-  tries : ℕ
-  sizes : ℕ
+use Rattle.facts.proofs.Bare.{Tally, tally}
 
 module _ (m : Model) (arrays : Arrays m) (sound : soundModel m ≡ true) (n : ℕ) (bound : boundFits n ≡ true) (some : 0 < n) (most : n ≤ 24)
     (ws : List (List ℕ)) (t : ℕ) (C : Counted (trails (labels m) n (labels m .fresh)) ws t 0) where
@@ -57,9 +52,8 @@ module _ (m : Model) (arrays : Arrays m) (sound : soundModel m ≡ true) (n : �
   these bs can few =
       let g = ends-some-time m arrays sound n bound bs can few in
       let o = only-these bs can (g .3) in
-      let e : _≡_ {A = Counts} (record { words = g .0; tries = g .1; sizes = g .2 }) (record { words = ws; tries = t; sizes = 0 }) =
-      λ x. record { words = o .0 x; tries = o .1 x; sizes = o .2 x } in
-      subst (λ (c : Counts). Gathers (callOn m n) bs 0 startPlace (c .words) (c .tries) (c .sizes)) e (g .3)
+      let e : tally (g .0) (g .1) (g .2) ≡ tally ws t 0 = λ x. tally (o .0 x) (o .1 x) (o .2 x) in
+      subst (λ (c : Tally). Gathers (callOn m n) bs 0 startPlace (c .bads) (c .tries) (c .sizes)) e (g .3)
 
   -- a listing that has budget and room enough is done
   is-done : (b k : ℕ) (past : List Try) (p : P.Place) {c : Close} → trails M n (M .fresh) ≡ past ++ passing M n p → t ≤ b → length ws < k →

@@ -1,20 +1,22 @@
 -- What the closed computations of this crate open, by theme: an `unfolding` line that names one of these opens all that its own line names.
 use Rattle.terms.specs.Term.{shapeOf, afterParts}
 use Rattle.terms.specs.Line.{packed, termIn, depthIn, groundIn}
-use Rattle.terms.specs.Grade.{gradeOf, aboveLine, aboveBoth, deeperOf}
+use Rattle.terms.specs.Base.{largerOf, filled}
+use Rattle.terms.specs.Grade.{gradeOf, aboveLine, aboveBoth}
 use Rattle.terms.specs.Table.{fixedLine, freshTable, addTo, findIn, findLine, freeOf}
 use Rattle.terms.specs.Meaning.{build, treesFrom, trees, treeOf}
-use Rattle.model.specs.Records.{packAction, actionIn, packMachine, machineIn, packLocation, locationIn, packThread, threadIn}
+use Rattle.model.specs.Records.{packAction, actionIn, actionNumber, packMachine, machineIn, packLocation, locationIn, packThread, threadIn}
 use Rattle.model.specs.Records.{actionAt, lengthAt, machineAt, locationAt, threadAt}
+use Rattle.model.specs.Fields.{locOf, namesLocation}
 use Rattle.state.specs.Slot.{packSlot, slotIn, slotAt, lowestIn, lowestFree}
 use Rattle.state.specs.Lock.{lockIn, lockAt}
 use Rattle.state.specs.Code.{wayOf}
 use Rattle.state.specs.Control.{upFrom, freshSlot, freshSlots, freshFrame, firstValue, firstValues, valueAt, oneMore}
 use Rattle.state.specs.Each.{each2}
-use Rattle.state.specs.Early.{nextAction, takesLocation, refusalOf, earlyOf}
+use Rattle.state.specs.Early.{nextAction, refusalOf, earlyOf}
 use Rattle.state.specs.Ended.{endedOne}
 use Rattle.state.specs.Moves.{withSlot, locked, isLast, movedOn, jumpedTo, nonceAfter, frameMoved}
-use Rattle.rules.specs.Effect.{stored, placeOf, withVar, filled, cleared, boundBy, bound}
+use Rattle.rules.specs.Effect.{stored, placeOf, withVar, cleared, boundBy, bound}
 use Rattle.rules.specs.Happened.{advanceEvent, happenedOn}
 use Rattle.rules.specs.Made.{jumpedOn, actedOn, advancedOn, madeOn}
 
@@ -25,7 +27,7 @@ lines-open = tt
 
 -- finding and adding a term
 unfoldable pub adding-open : Unit {0}
-unfolding lines-open addTo afterParts gradeOf aboveBoth aboveLine deeperOf findLine findIn freeOf
+unfolding lines-open addTo afterParts gradeOf aboveBoth aboveLine largerOf findLine findIn freeOf
 adding-open = tt
 
 -- the tree of a label
@@ -35,7 +37,7 @@ trees-open = tt
 
 -- the records of a model
 unfoldable pub records-open : Unit {0}
-unfolding threadAt locationAt machineAt lengthAt actionAt threadIn packThread locationIn packLocation machineIn packMachine actionIn packAction
+unfolding threadAt locationAt machineAt lengthAt actionAt actionNumber threadIn packThread locationIn packLocation machineIn packMachine actionIn packAction
 records-open = tt
 
 -- a fresh configuration
@@ -50,7 +52,7 @@ slots-open = tt
 
 -- what is refused early, and how a thread moves
 unfoldable pub frame-open : Unit {0}
-unfolding slots-open frameMoved nonceAfter jumpedTo movedOn isLast locked withSlot endedOne earlyOf refusalOf takesLocation nextAction wayOf
+unfolding slots-open frameMoved nonceAfter jumpedTo movedOn isLast locked withSlot endedOne earlyOf refusalOf namesLocation locOf nextAction wayOf
 frame-open = tt
 
 -- what a permitted step makes

@@ -6,17 +6,18 @@ use mathlib.Core.Bool.{true}
 use mathlib.Core.List.{List, [], _∷_}
 use Rattle.terms.specs.Base.{also, Held}
 use Rattle.terms.proofs.Meaning.{also-left, also-right, also-both}
-use Rattle.model.specs.Fields.{locOf, usesX, usesY, closing, locInForm, unusedZero, inForm, isMemory, isRegister, kindFits}
+use Rattle.model.specs.Fields.{locOf, namesLocation, usesX, usesY, closing, locInForm, unusedZero, inForm, isMemory, isRegister, kindFits}
 use Rattle.model.specs.declared.records.Model.{Model}
 use Rattle.terms.specs.Term.{inLimits, partsBelow}
 use Rattle.terms.specs.Table.{freshTable}
-use Rattle.terms.specs.Sound.{fixedFirst, lineSound, linesFrom, allZero, soundTest}
+use Rattle.terms.specs.Sound.{fixedFirst, lineSound, allZero, soundTest}
 use Rattle.state.specs.Control.{freshControl}
 use Rattle.state.specs.declared.control.Control.{Control}
 use Rattle.rules.specs.declared.inner.Stepped.{Stepped}
-use Rattle.audit.specs.Each.{allFrom}
-use Rattle.audit.specs.Tops.{higherOf, topAt, topOf, topsFrom, topsOf}
-use Rattle.audit.specs.Programs.{listedAndFits, locFits, operandFits, actionFits, lastIfClosing, actionSound, numberOf, actionsSound}
+use Rattle.model.specs.Records.{actionNumber}
+use Rattle.terms.specs.Each.{allFrom}
+use Rattle.audit.specs.Tops.{pastOf, topAt, topOf, topsFrom, topsOf}
+use Rattle.audit.specs.Programs.{listedAndFits, locFits, operandFits, actionFits, lastIfClosing, actionSound, actionsSound}
 use Rattle.audit.specs.Programs.{lengthFits, programSound, eachProgram, equalActions, equalPrograms, newProgram, programsDiffer, programsSound}
 use Rattle.audit.specs.Listed.{machineSound, machinesSound, storedValue, firstFits, locationSound, eachLocation, locationsSound, threadSound, threadsSound}
 use Rattle.audit.specs.Claims.{pathProgram, pathSound, claimSound}
@@ -25,12 +26,13 @@ use Rattle.audit.specs.Sound.{SoundModel}
 use Rattle.audit.specs.Whole.{Arrays, SoundConfig}
 use Rattle.audit.proofs.Check.{test-model, model-test}
 use Rattle.audit.proofs.Whole.{control-test}
+use Rattle.law.specs.Turned.{turnedBy}
 use Rattle.law.proofs.KeptFresh.{fresh-passes}
 use Rattle.law.proofs.KeptStep.{step-sound}
 use Rattle.machine.specs.Step.{stepChecked, innerStep}
 use Rattle.machine.proofs.Checked.{inner-agrees}
 use Rattle.facts.specs.Models.{keys, fullTable, extends, unlocks, hashes}
-use Rattle.facts.specs.Said.{replyNumber, answersAfter, answersFrom, answersTo}
+use Rattle.facts.specs.Said.{answersAfter, answersFrom, answersTo}
 use Rattle.facts.proofs.Opened.{adding-open, records-open}
 use Rattle.facts.proofs.Steps.{innerFrom, innerTo}
 
@@ -44,7 +46,7 @@ module _ (m : Model) (M : SoundModel m) (A : Arrays m) where
   all-same (k ∷ ks) l s C =
       let r : Held Stepped = innerStep l m s k in
       ap (λ (x : Held Stepped). answersAfter x (answersFrom m ks)) (one-same l s C k)
-      ∙ ap (λ (ns : List ℕ). replyNumber (r .out .reply) ∷ ns) (all-same ks (r .table) (r .out .control) (step-sound M A C k))
+      ∙ ap (λ (ns : List ℕ). turnedBy r ∷ ns) (all-same ks (r .table) (r .out .control) (step-sound M A C k))
 
   same-answers : (ks : List ℕ) → answersTo m ks ≡ innerTo m ks
   unfolding answersTo innerTo
@@ -52,11 +54,11 @@ module _ (m : Model) (M : SoundModel m) (A : Arrays m) where
 
 -- what the test of a model opens
 unfoldable table-open : Unit {0}
-unfolding soundTest allZero linesFrom lineSound fixedFirst partsBelow inLimits
+unfolding soundTest allZero allFrom lineSound fixedFirst partsBelow inLimits
 table-open = tt
 
 unfoldable forms-open : Unit {0}
-unfolding kindFits isRegister isMemory inForm unusedZero locInForm closing usesY usesX locOf
+unfolding kindFits isRegister isMemory inForm unusedZero locInForm closing usesY usesX namesLocation locOf
 forms-open = tt
 
 unfoldable same-open : Unit {0}
@@ -64,7 +66,7 @@ unfolding programsDiffer newProgram equalPrograms equalActions
 same-open = tt
 
 unfoldable actions-open : Unit {0}
-unfolding actionsSound numberOf actionSound lastIfClosing actionFits operandFits locFits listedAndFits
+unfolding actionsSound actionNumber actionSound lastIfClosing actionFits operandFits locFits listedAndFits
 actions-open = tt
 
 unfoldable programs-open : Unit {0}
@@ -76,7 +78,7 @@ unfolding threadsSound threadSound locationsSound eachLocation locationSound fir
 listed-open = tt
 
 unfoldable models-open : Unit {0}
-unfolding termsListed mayBeListed namesProgram claimSound pathSound pathProgram topsOf topsFrom topOf topAt higherOf allFrom
+unfolding termsListed mayBeListed namesProgram claimSound pathSound pathProgram topsOf topsFrom topOf topAt pastOf allFrom
 models-open = tt
 
 -- the three models are sound, by the test itself

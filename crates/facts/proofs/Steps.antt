@@ -3,23 +3,23 @@ use Prim.Native.Nat.{ℕ}
 use mathlib.Core.Path.{_≡_, refl}
 use mathlib.Core.List.{List, [], _∷_, _++_}
 use lib.ListN.{replicate}
-use Rattle.terms.specs.Table.{findTerm, usedOf, cutTo, wipe}
+use Rattle.terms.specs.Base.{filled}
+use Rattle.terms.specs.Table.{findTerm, usedOf, cutTo}
 use Rattle.terms.specs.Subst.{planAt, fitsWithin, enteredIn, withFirst, withSecond, withBoth, substIn, secondOperand, takeBoth, deepOrFull, takeOperands}
 use Rattle.model.specs.declared.records.Model.{Model}
 use Rattle.state.specs.Lock.{packLock, heldBy, barsTo, isHeldBy}
 use Rattle.state.specs.Control.{freshControl}
 use Rattle.state.specs.Early.{isElsewhere, lockedOut}
 use Rattle.state.specs.Ended.{endedBoth}
-use Rattle.state.specs.Moves.{withLock}
+use Rattle.state.specs.Moves.{withAt}
 use Rattle.state.specs.declared.control.Control.{Control}
 use Rattle.rules.specs.Want.{sealedBy, openedBy, firstHalf, secondHalf, matchedOf, codeNeeded, wantOf}
 use Rattle.rules.specs.Work.{meetNew, meetWant, givenAt, tryAction, codeAt, workAdvance, workOn}
-use Rattle.rules.specs.Effect.{withValue}
 use Rattle.rules.specs.Happened.{handEvent}
 use Rattle.rules.specs.Made.{layout, controlAfter}
 use Rattle.rules.specs.Step.{goOn, stepOn}
 use Rattle.facts.specs.Models.{keys, fullTable, extends, unlocks, hashes}
-use Rattle.facts.specs.Said.{replyNumber, answersAfter}
+use Rattle.facts.specs.Said.{answersAfter}
 use Rattle.facts.proofs.Opened.{adding-open, records-open, fresh-open, frame-open, made-open}
 
 -- `answersTo` with the inner step
@@ -48,15 +48,15 @@ unfolding wantOf codeNeeded matchedOf secondHalf firstHalf openedBy sealedBy
 work-open = tt
 
 unfoldable step-open : Unit {0}
-unfolding work-open replyNumber stepOn goOn controlAfter handEvent withValue workOn workAdvance codeAt tryAction givenAt meetWant meetNew
+unfolding work-open stepOn goOn controlAfter handEvent withAt workOn workAdvance codeAt tryAction givenAt meetWant meetNew
 step-open = tt
 
 unfoldable locks-open : Unit {0}
-unfolding withLock endedBoth lockedOut isElsewhere isHeldBy barsTo heldBy packLock freshControl
+unfolding withAt endedBoth lockedOut isElsewhere isHeldBy barsTo heldBy packLock freshControl
 locks-open = tt
 
 unfoldable subst-open : Unit {0}
-unfolding takeOperands deepOrFull takeBoth secondOperand substIn withBoth withSecond withFirst enteredIn fitsWithin planAt wipe cutTo usedOf findTerm
+unfolding takeOperands deepOrFull takeBoth secondOperand substIn withBoth withSecond withFirst enteredIn fitsWithin planAt filled cutTo usedOf findTerm
 subst-open = tt
 
 -- one theorem, so that the steps are computed together

@@ -11,7 +11,7 @@ use Rattle.terms.specs.Table.{fixedLine, freshTable}
 use Rattle.model.specs.Records.{action, location, listed, packAction, packLocation, packThread}
 use Rattle.model.specs.declared.records.Action.{Action}
 use Rattle.model.specs.declared.records.Model.{Model}
-use Rattle.audit.proofs.Bare.{bareWith}
+use Rattle.audit.specs.Bare.{bareWith}
 
 -- crate `reader` proves that the file of document 01 loads as this model
 unfoldable pub bare : Model

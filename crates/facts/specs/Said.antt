@@ -15,9 +15,8 @@ use Rattle.terms.specs.declared.table.Outcome.the-variants.{New}
 use Rattle.model.specs.declared.records.Model.{Model}
 use Rattle.state.specs.Control.{freshControl}
 use Rattle.state.specs.declared.control.Control.{Control}
-use Rattle.rules.specs.declared.inner.Reply.{Reply}
-use Rattle.rules.specs.declared.inner.Reply.the-variants.{Refused, Permitted}
 use Rattle.rules.specs.declared.inner.Stepped.{Stepped}
+use Rattle.law.specs.Turned.{turnedBy}
 use Rattle.machine.specs.Step.{stepChecked}
 use Rattle.walk.specs.Gathers.{Gathers}
 use Rattle.search.specs.Place.{place, startPlace}
@@ -29,13 +28,9 @@ use Rattle.search.specs.declared.answer.Kind.the-variants.{End}
 
 -- Steps: code after code from the model's fresh configuration, each where the one before it left table and configuration
 
--- 0 where the step is done, else its refusal
-unfoldable pub replyNumber : Reply → ℕ
-replyNumber (Refused n) = n
-replyNumber (Permitted h) = 0
-
+-- 0 where the step is done, else its refusal; then the codes behind it
 abbrev pub answersAfter : Held Stepped → (List ℕ → Control → List ℕ) → List ℕ
-answersAfter r rest = replyNumber (r .out .reply) ∷ rest (r .table) (r .out .control)
+answersAfter r rest = turnedBy r ∷ rest (r .table) (r .out .control)
 
 unfoldable pub answersFrom : Model → List ℕ → List ℕ → Control → List ℕ
 answersFrom m [] l s = []

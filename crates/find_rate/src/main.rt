@@ -2,9 +2,9 @@
 // What it writes is the number of lookups that found their term.
 ghost use Prim.Native.Nat.{_≤_};
 use libc::STDOUT_FILENO;
+use terms::entry::add;
 use terms::table::Found;
 use terms::table::Table;
-use terms::table::add;
 use terms::table::find;
 use terms::term::Term;
 

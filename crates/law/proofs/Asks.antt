@@ -13,13 +13,14 @@ use Rattle.terms.specs.Term.{term, shapeOf, inLimits, partsBelow}
 use Rattle.terms.specs.Line.{lineAt, termAt}
 use Rattle.terms.specs.Sound.{Sound}
 use Rattle.terms.specs.Tree.{Tree, leaf, sealed, applied, joined, nought, same, with, enter}
-use Rattle.terms.specs.Meaning.{build, trees, treeOf, means, Den}
+use Rattle.terms.specs.Meaning.{build, trees, means, Den}
 use Rattle.terms.specs.Promise.{Fit}
 use Rattle.terms.specs.declared.term.Term.{Term}
 use Rattle.terms.specs.declared.term.Shape.the-variants.{Number, Sealed}
 use Rattle.terms.proofs.Pack.{term-small}
 use Rattle.terms.proofs.Growth.{den-nought}
-use Rattle.terms.proofs.Depth.{den-enters}
+use Rattle.terms.proofs.Depth.{Seals, Applies, Joins, seals-sealed, seals-hashed, applies, joins, den-enters}
+use Rattle.terms.proofs.Substs.{means-sealed, means-applied, means-joined}
 use Rattle.model.specs.declared.records.Action.{Action}
 use Rattle.rules.specs.Want.{sealedBy, openedBy, firstHalf, secondHalf, matchedOf, codeNeeded, wantOf}
 use Rattle.rules.specs.Work.{givenAt}
@@ -52,42 +53,22 @@ module _ {l : List ℕ} {c : ℕ} where
 leaf-kind : (k n : ℕ) → k ≡ n → shapeOf n ≡ Number → shapeOf k ≡ Number
 leaf-kind k n e h = ap shapeOf e ∙ h
 
-fit-sealed : (k j n d : ℕ) → shapeOf k ≡ Sealed → k < 256 → j < d → d ≤ 512 → n < 65536 → Fit (term k j n) d
-unfolding inLimits partsBelow
-fit-sealed k j n d e h p q r = record { limits = rw e; parts = rw e (lt-ltb j d p); kind = h; first = omega arith; second = r }
+hash-seals : Seals 13 0
+unfolding inLimits shapeOf
+hash-seals = seals-hashed (term 13 0 0) (omega arith) refl (omega arith) refl
 
-fit-hash : (j d : ℕ) → j < d → d ≤ 512 → Fit (term 13 j 0) d
-unfolding inLimits partsBelow shapeOf
-fit-hash j d p q = record { limits = refl; parts = lt-ltb j d p; kind = omega arith; first = omega arith; second = omega arith }
+eval-applies : (f : ℕ) → f < 256 → Applies 15 f
+unfolding inLimits shapeOf
+eval-applies f h = applies (term 15 f 0) (omega arith) refl (omega arith) (lt-ltb f 256 h)
 
-fit-applied : (f j d : ℕ) → f < 256 → j < d → d ≤ 512 → Fit (term 15 f j) d
-unfolding inLimits partsBelow shapeOf
-fit-applied f j d h p q = record { limits = lt-ltb f 256 h; parts = lt-ltb j d p; kind = omega arith; first = omega arith; second = omega arith }
+chain-joins : Joins 14
+unfolding shapeOf
+chain-joins = joins (term 14 0 0) (omega arith) refl
 
-fit-chain : (i j d : ℕ) → i < d → j < d → d ≤ 512 → Fit (term 14 i j) d
-unfolding inLimits partsBelow shapeOf
-fit-chain i j d p r q = record { limits = refl; parts = rw (lt-ltb i d p, lt-ltb j d r); kind = omega arith; first = omega arith; second = omega arith }
-
+-- a nonce has no parts
 fit-nonce : (n d : ℕ) → n < 65536 → Fit (term 7 n 0) d
 unfolding inLimits partsBelow shapeOf
 fit-nonce n d h = record { limits = refl; parts = refl; kind = omega arith; first = h; second = omega arith }
-
--- what they mean where the parts denote
-means-sealed : {l : List ℕ} {c j : ℕ} {x : Tree} (k n : ℕ) → shapeOf k ≡ Sealed → Den l c j x → means l c (term k j n) ≡ sealed k x n
-unfolding means build treeOf
-means-sealed k n e d = rw e (ap (λ (t : Tree). sealed k t n) (d .is))
-
-means-hash : {l : List ℕ} {c j : ℕ} {x : Tree} → Den l c j x → means l c (term 13 j 0) ≡ sealed 13 x 0
-unfolding means build treeOf shapeOf
-means-hash d = ap (λ (t : Tree). sealed 13 t 0) (d .is)
-
-means-applied : {l : List ℕ} {c j : ℕ} {x : Tree} (f : ℕ) → Den l c j x → means l c (term 15 f j) ≡ applied 15 f x
-unfolding means build treeOf shapeOf
-means-applied f d = ap (λ (t : Tree). applied 15 f t) (d .is)
-
-means-chain : {l : List ℕ} {c i j : ℕ} {x y : Tree} → Den l c i x → Den l c j y → means l c (term 14 i j) ≡ joined 14 x y
-unfolding means build treeOf shapeOf
-means-chain {l} {c} {i} {j} {x} d e = ap (λ (t : Tree). joined 14 t (treeOf l c j)) (d .is) ∙ ap (λ (t : Tree). joined 14 x t) (e .is)
 
 means-nonce : (l : List ℕ) (c n : ℕ) → means l c (term 7 n 0) ≡ leaf 7 n
 unfolding means build shapeOf
@@ -128,8 +109,9 @@ module _ {l : List ℕ} {c : ℕ} (sound : Sound l c) (long : length l ≡ 512) 
         (λ t.
         let s : shapeOf (termAt l y .kind) ≡ Number = leaf-kind _ _ (eqb-true (termAt l y .kind) key t) g in
         let q : termAt l y .a ≡ numOf ty = den-number sound long dy s in
-        makes (fit-sealed k x (termAt l y .a) c e h (dx .below) room (term-small (lineAt l y) .first))
-        (means-sealed k (termAt l y .a) e dx ∙ ap (λ (a : ℕ). sealed k tx a) q)
+        let u : Seals k (termAt l y .a) = seals-sealed (term k x (termAt l y .a)) h e (term-small (lineAt l y) .first) in
+        makes (u .fit x c (dx .below) room)
+        (means-sealed u dx ∙ ap (λ (a : ℕ). sealed k tx a) q)
         (whole-sealed k (numOf ty) dx))
 
     opens : (k key : ℕ) → shapeOf k ≡ Sealed → shapeOf key ≡ Number → Asks l c (openedBy k key (givenAt l x y v n)) (opening k key tx ty)
@@ -165,21 +147,21 @@ module _ {l : List ℕ} {c : ℕ} (sound : Sound l c) (long : length l ≡ 512) 
     jumps = asks-fit (eqb (termAt l x .kind) 8) (isA 8 tx) (kind-test 8 dx) (λ s. keeps zero)
 
     evals : (f : ℕ) → f < 256 → Asks l c (Make (term 15 f x)) (ok (applied 15 f tx))
-    evals f h = makes (fit-applied f x c h (dx .below) room) (means-applied f dx) (whole-applied 15 f dx)
+    evals f h = makes (eval-applies f h .fit x c (dx .below) room) (means-applied (eval-applies f h) dx) (whole-applied 15 f dx)
 
     -- what an action wants is what it yields
     pub asks : (a : Action) → (a .op ≡ 14 → a .loc < 256) → Asks l c (wantOf a (givenAt l x y v n)) (result a tv tx ty n)
     unfolding wantOf result givenAt shapeOf
     asks a small-loc =
         asks-pick (eqb (a .op) 0) (λ t. keeps dv)
-        (asks-pick (eqb (a .op) 2) (λ t. makes (fit-chain v x c (dv .below) (dx .below) room) (means-chain dv dx) (whole-joined 14 dv dx))
+        (asks-pick (eqb (a .op) 2) (λ t. makes (chain-joins .fit v x c (dv .below) (dx .below) room) (means-joined chain-joins dv dx) (whole-joined 14 dv dx))
         (asks-pick (eqb (a .op) 7) (λ t. seals 10 5 refl (omega arith) refl)
         (asks-pick (eqb (a .op) 8) (λ t. opens 10 4 refl refl)
         (asks-pick (eqb (a .op) 9) (λ t. seals 11 4 refl (omega arith) refl)
         (asks-pick (eqb (a .op) 10) (λ t. opens 11 5 refl refl)
         (asks-pick (eqb (a .op) 11) (λ t. seals 12 4 refl (omega arith) refl)
         (asks-pick (eqb (a .op) 12) (λ t. opens 12 4 refl refl)
-        (asks-pick (eqb (a .op) 13) (λ t. makes (fit-hash x c (dx .below) room) (means-hash dx) (whole-sealed 13 0 dx))
+        (asks-pick (eqb (a .op) 13) (λ t. makes (hash-seals .fit x c (dx .below) room) (means-sealed hash-seals dx) (whole-sealed 13 0 dx))
         (asks-pick (eqb (a .op) 14) (λ t. evals (a .loc) (small-loc (eqb-true (a .op) 14 t)))
         (asks-pick (eqb (a .op) 15) (λ t. first-part)
         (asks-pick (eqb (a .op) 16) (λ t. second-part)

@@ -6,6 +6,7 @@ use mathlib.Core.List.{List}
 use native.Mathlib.Omega.{arith}
 use lib.ListN.{getD}
 use lib.Dec.{eqb, ltb}
+use Rattle.walk.specs.Base.{All}
 use Rattle.terms.specs.Base.{pick, Held, held}
 use Rattle.terms.specs.Tree.{Tree, nought, sinit, dinit, kindOf}
 use Rattle.terms.specs.Meaning.{trees, treeOf, Den}
@@ -18,8 +19,7 @@ use Rattle.model.specs.declared.records.Model.{Model}
 use Rattle.state.specs.Slot.{slotAt}
 use Rattle.state.specs.Code.{wayOf}
 use Rattle.state.specs.Control.{valueAt}
-use Rattle.state.specs.Early.{nextAction, earlyOf}
-use Rattle.state.specs.Seek.{sightOf}
+use Rattle.state.specs.Early.{sightOf, nextAction, earlyOf}
 use Rattle.state.specs.declared.slot.Slot.{Slot}
 use Rattle.state.specs.declared.code.Way.{Way}
 use Rattle.state.specs.declared.code.Way.the-variants as W
@@ -41,7 +41,7 @@ use Rattle.law.specs.Out.{Out, ok, refuse, andThen}
 use Rattle.law.specs.Act.{programOf}
 use Rattle.law.specs.Rules.{State, Acted, acted, Made, layoutOf, operand, acts, actionOf, made, goBy, stepR}
 use Rattle.law.specs.Meant.{bare}
-use Rattle.law.specs.Like.{Leaves, at, All, Named, Like, LikeMade, Exactly, both, neither, Fine}
+use Rattle.law.specs.Like.{Leaves, at, Named, Like, LikeMade, Exactly, both, neither, Fine}
 use Rattle.law.proofs.Tries.{Tries, refused, done, tries}
 use Rattle.law.proofs.Leaves.{Holds, holds-is, all-at, leaves-subst, CleanActed, acting-leaves}
 use Rattle.law.proofs.Shown.{code-program, Shows, event-bare, advance-shows, hand-shows, hand-event, made-small, hand-made}
@@ -94,7 +94,7 @@ module _ (m : Model) (fine : Fine m) (l : List ℕ) (s : Control) (ws xs : List 
   -- what a label denotes is known, so its code terms name programs
   den-leaves : {i : ℕ} {x : Tree} → Den l (s .count) i x → Leaves (Named m) x
   unfolding treeOf
-  den-leaves {i} d = subst (Leaves (Named m)) (d .is) (all-at nought (at (zero-named m)) codes i)
+  den-leaves {i} d = subst (Leaves (Named m)) (d .is) (all-at (Leaves (Named m)) (trees l (s .count)) nought (at (zero-named m)) codes i)
 
   var-leaves : (i : ℕ) → Leaves (Named m) (getD xs i nought)
   var-leaves i = den-leaves (each-at zero vars i)
@@ -131,7 +131,8 @@ module _ (m : Model) (fine : Fine m) (l : List ℕ) (s : Control) (ws xs : List 
   acts-leaves i =
       let q = slotAt (s .frame .slots) i in
       let a = nextAction (m .actions) q in
-      acting-leaves true (s .frame .nonce) a (zero-named m) (λ e. nonce-named m (s .frame .nonce)) codes (den-leaves (value-den (a .loc)))
+      acting-leaves true (trees l (s .count)) (s .frame .nonce) a (zero-named m) (λ e. nonce-named m (s .frame .nonce)) codes
+      (den-leaves (value-den (a .loc)))
       (leaves-subst xs (placeOf i 0) var-leaves (den-leaves (x-den q)))
       (leaves-subst xs (placeOf i 0) var-leaves (den-leaves (y-den q)))
 

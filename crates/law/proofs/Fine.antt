@@ -12,11 +12,10 @@ use Rattle.terms.specs.Line.{grade, termIn, termAt}
 use Rattle.terms.specs.Table.{fixedLine}
 use Rattle.terms.proofs.Meaning.{also-left}
 use Rattle.terms.proofs.Pack.{term-packed}
-use Rattle.model.specs.Records.{actionIn, actionAt, lengthAt, locationIn, locationAt}
+use Rattle.model.specs.Records.{actionIn, actionNumber, actionAt, lengthAt, locationIn, locationAt}
 use Rattle.model.specs.Fields.{locOf, locFormBy, locInForm, usesX, usesY, unusedZero, inForm}
 use Rattle.model.specs.declared.records.Action.{Action}
 use Rattle.model.specs.declared.records.Model.{Model}
-use Rattle.audit.specs.Programs.{numberOf}
 use Rattle.audit.specs.Sound.{SoundModel, FitAction}
 use Rattle.law.specs.Like.{Fine}
 
@@ -61,7 +60,7 @@ module _ {m : Model} (s : SoundModel m) where
     same-place = omega arith
 
     listed-action : j % 16 < lengthAt (m .lengths) (j / 16) → FineAction m (actionIn (getD (m .actions) j 0))
-    unfolding actionAt
+    unfolding actionAt actionNumber
     listed-action k = by-length (ltb (j / 16) (m .programs)) refl
       where
         by-length : (b : Bool) → ltb (j / 16) (m .programs) ≡ b → FineAction m (actionIn (getD (m .actions) j 0))
@@ -73,7 +72,7 @@ module _ {m : Model} (s : SoundModel m) where
             absurd (omega arith)
 
     past-action : lengthAt (m .lengths) (j / 16) ≤ j % 16 → FineAction m (actionIn (getD (m .actions) j 0))
-    unfolding numberOf
+    unfolding actionNumber
     past-action k =
         let z = s .zeros .actions (j / 16) (j % 16) (omega arith) k (omega arith) in
         let e : getD (m .actions) j 0 ≡ 0 = rw (same-place, lt-ltb j 512 h) at z in
@@ -87,10 +86,10 @@ module _ {m : Model} (s : SoundModel m) where
         go false e = past-action (ltb-false (j % 16) (lengthAt (m .lengths) (j / 16)) e)
 
   action-fine : (p k : ℕ) → FineAction m (actionAt (m .actions) p k)
-  unfolding actionAt
+  unfolding actionAt actionNumber
   action-fine p k = go (ltb (p * 16 + k) 512) refl
     where
-      go : (b : Bool) → ltb (p * 16 + k) 512 ≡ b → FineAction m (pick b (actionIn (getD (m .actions) (p * 16 + k) 0)) (actionIn 0))
+      go : (b : Bool) → ltb (p * 16 + k) 512 ≡ b → FineAction m (actionIn (pick b (getD (m .actions) (p * 16 + k) 0) 0))
       go true e = place-fine (p * 16 + k) (ltb-true (p * 16 + k) 512 e)
       go false e = none-fine m some-term
 

@@ -4,6 +4,8 @@ use Prim.Native.Nat.{ℕ, _<_}
 use mathlib.Core.Path.{_≡_}
 use mathlib.Core.Bool.{true}
 use mathlib.Core.List.{List, [], _∷_}
+use Rattle.walk.specs.Base.{All}
+use Rattle.walk.proofs.Lists.{all-imp}
 use Rattle.terms.specs.Base.{Held}
 use Rattle.model.specs.declared.records.Model.{Model}
 use Rattle.state.specs.Slot.{lowestFree}
@@ -20,21 +22,9 @@ use Rattle.audit.specs.Whole.{Arrays, Lengths, SoundConfig}
 use Rattle.audit.proofs.Check.{test-model}
 use Rattle.audit.proofs.Whole.{sound-grounds, test-control, control-test}
 use Rattle.law.specs.Rules.{layoutOf}
-use Rattle.law.specs.Like.{All}
-use Rattle.law.specs.Runs.{runLabels}
+use Rattle.law.specs.Runs.{runLabels, stepFrom, LeavesSound, LeavesPassing}
 use Rattle.law.proofs.KeptFresh.{fresh-passes}
 use Rattle.law.proofs.KeptStep.{step-sound}
-
--- the machine's step on table l and control s
-abbrev pub stepFrom : Model → List ℕ → Control → ℕ → Held Stepped
-stepFrom m l s code = stepOn l s (layoutOf m) (m .«machine_count») code
-
--- what a step leaves is sound, and passes the test
-abbrev pub LeavesSound : Model → Held Stepped → Type 0
-LeavesSound m w = SoundConfig m (w .table) (w .out .control)
-
-abbrev pub LeavesPassing : Model → Held Stepped → Type 0
-LeavesPassing m w = soundControl m (w .table) (w .out .control) ≡ true
 
 -- M4: a reset finds a free slot in every sound configuration
 pub slot-found : {m : Model} → SoundModel m → Arrays m → {l : List ℕ} {s : Control} → SoundConfig m l s → (k : ℕ)
@@ -45,8 +35,8 @@ slot-found {m} M A {s = s} C k = reset-finds m (sound-grounds M A) (s .frame) (C
 pub run-sound : {m : Model} → SoundModel m → Arrays m → {l : List ℕ} {s : Control} → SoundConfig m l s → (ks : List ℕ)
     → All (LeavesSound m) (runLabels m l s ks)
 unfolding runLabels
-run-sound M A C [] = All.none
-run-sound M A C (k ∷ ks) = All.one (step-sound M A C k) (run-sound M A (step-sound M A C k) ks)
+run-sound M A C [] = tt
+run-sound M A C (k ∷ ks) = (step-sound M A C k, run-sound M A (step-sound M A C k) ks)
 
 -- so all that is reached from the fresh configuration is sound
 pub reached-sound : {m : Model} → SoundModel m → Arrays m → (ks : List ℕ) → All (LeavesSound m) (runLabels m (m .lines) (freshControl m) ks)
@@ -63,15 +53,14 @@ step-test A L e f code =
     let M = test-model (A .lines) e in
     control-test A (step-sound M A (test-control M A L f) code)
 
-all-pass : {m : Model} → Arrays m → {ws : List (Held Stepped)} → All (LeavesSound m) ws → All (LeavesPassing m) ws
-all-pass A All.none = All.none
-all-pass A (All.one C cs) = All.one (control-test A C) (all-pass A cs)
+all-pass : {m : Model} → Arrays m → (ws : List (Held Stepped)) → All (LeavesSound m) ws → All (LeavesPassing m) ws
+all-pass {m} A ws cs = all-imp (LeavesSound m) (LeavesPassing m) (λ w C. control-test A C) ws cs
 
 pub run-test : {m : Model} → Arrays m → {l : List ℕ} {s : Control} → Lengths l s → soundModel m ≡ true → soundControl m l s ≡ true → (ks : List ℕ)
     → All (LeavesPassing m) (runLabels m l s ks)
-run-test A L e f ks =
+run-test {m} A {l} {s} L e f ks =
     let M = test-model (A .lines) e in
-    all-pass A (run-sound M A (test-control M A L f) ks)
+    all-pass A (runLabels m l s ks) (run-sound M A (test-control M A L f) ks)
 
 pub reached-test : {m : Model} → Arrays m → soundModel m ≡ true → (ks : List ℕ) → All (LeavesPassing m) (runLabels m (m .lines) (freshControl m) ks)
-reached-test A e ks = all-pass A (reached-sound (test-model (A .lines) e) A ks)
+reached-test {m} A e ks = all-pass A (runLabels m (m .lines) (freshControl m) ks) (reached-sound (test-model (A .lines) e) A ks)

@@ -11,8 +11,7 @@ use Rattle.terms.specs.Base.{pick, Held, held}
 use Rattle.model.specs.declared.records.Model.{Model}
 use Rattle.state.specs.Slot.{slotAt}
 use Rattle.state.specs.Code.{wayOf}
-use Rattle.state.specs.Early.{Sight, nextAction, refusalOf, earlyOf}
-use Rattle.state.specs.Seek.{sightOf}
+use Rattle.state.specs.Early.{Sight, sightOf, nextAction, refusalOf, earlyOf}
 use Rattle.state.specs.Moves.{nonceAfter}
 use Rattle.state.specs.declared.code.Way.{Way}
 use Rattle.state.specs.declared.code.Way.the-variants as W

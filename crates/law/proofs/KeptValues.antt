@@ -1,10 +1,10 @@
 -- The values of locations stay sound: a write, an extend, a late launch, a reset; and they stay so as the table grows.
-use Prim.Native.Nat.{ℕ, suc, _<_, _≤_}
-use mathlib.Core.Path.{_≡_, refl, ap, _∙_}
+use Prim.Native.Nat.{ℕ, _<_, _≤_}
+use mathlib.Core.Path.{_≡_, refl, _∙_}
 use mathlib.Core.Bool.{Bool, true, false}
-use mathlib.Core.List.{List, [], _∷_}
+use mathlib.Core.List.{List}
 use native.Mathlib.Omega.{arith}
-use lib.ListN.{length, getD, set, drop, length-set, List·getD-eq-default}
+use lib.ListN.{length, getD, set, length-set, List·getD-eq-default}
 use lib.Dec.{ltb, eqb}
 use borrow.Author.Tests.{ltb-true, ltb-false, eqb-true}
 use Rattle.terms.specs.Base.{pick}
@@ -12,7 +12,7 @@ use Rattle.terms.specs.Tree.{sinit, dinit, isGround}
 use Rattle.terms.specs.Sound.{Sound}
 use Rattle.terms.specs.Promise.{Grows}
 use Rattle.terms.proofs.Growth.{den-sinit, den-dinit}
-use Rattle.model.specs.Fields.{locOf}
+use Rattle.model.specs.Fields.{locOf, namesLocation}
 use Rattle.model.specs.Records.{locationIn}
 use Rattle.model.specs.declared.records.Action.{Action}
 use Rattle.model.specs.declared.records.Model.{Model}
@@ -22,10 +22,10 @@ use Rattle.state.specs.Launch.{isDynamic}
 use Rattle.state.specs.FrameSound.{Grounds}
 use Rattle.state.proofs.Threads.{At, at}
 use Rattle.state.proofs.Threads.At.{here, there}
-use Rattle.state.proofs.Holds.{each-at}
-use Rattle.rules.specs.Effect.{withValue, stored}
+use Rattle.state.proofs.Holds.{each-long, each-at}
+use Rattle.state.specs.Moves.{withAt}
+use Rattle.rules.specs.Effect.{stored}
 use Rattle.rules.specs.Restart.{valueLaunched, valuesLaunched, resetValue, valueReset, valuesReset}
-use Rattle.audit.specs.Programs.{namesLocation}
 use Rattle.audit.specs.Sound.{FitAction}
 use Rattle.audit.specs.Whole.{Stored, SoundValues}
 use Rattle.law.proofs.KeptWant.{stored-grows, stored-den, stored-none}
@@ -46,16 +46,16 @@ stored-dinit : {l : List ℕ} {c : ℕ} → Sound l c → length l ≡ 512 → S
 stored-dinit S p = stored-den (den-dinit S p) dinit-ground
 
 -- an action that names a location names a listed one
-named-write : (op : ℕ) → op ≡ 1 → namesLocation (locOf op) ≡ true
-unfolding locOf
+named-write : (op : ℕ) → op ≡ 1 → namesLocation op ≡ true
+unfolding namesLocation locOf
 named-write op e = rw e
 
-named-extend : (op : ℕ) → op ≡ 2 → namesLocation (locOf op) ≡ true
-unfolding locOf
+named-extend : (op : ℕ) → op ≡ 2 → namesLocation op ≡ true
+unfolding namesLocation locOf
 named-extend op e = rw e
 
-named-lock : (op : ℕ) → op ≡ 3 → namesLocation (locOf op) ≡ true
-unfolding locOf
+named-lock : (op : ℕ) → op ≡ 3 → namesLocation op ≡ true
+unfolding namesLocation locOf
 named-lock op e = rw e
 
 pub lock-listed : {m : Model} {k n : ℕ} {a : Action} → FitAction m k n a → a .op ≡ 3 → a .loc < m .«location_count»
@@ -88,13 +88,13 @@ module _ {m : Model} {l : List ℕ} {c : ℕ} where
   with-by true vs i v e h s t = set-value vs i v h (ltb-true i 32 e) s t
   with-by false vs i v e h s t = s
 
-  with-value : (vs : List ℕ) (i v : ℕ) → i < m .«location_count» → SoundValues m l c vs → Stored l c v → SoundValues m l c (withValue vs i v)
-  unfolding withValue
+  with-value : (vs : List ℕ) (i v : ℕ) → i < m .«location_count» → SoundValues m l c vs → Stored l c v → SoundValues m l c (withAt vs i v)
+  unfolding withAt
   with-value vs i v h s t = with-by (ltb i 32) vs i v refl h s t
 
   -- write and extend
   stored-by : (b e : Bool) (vs : List ℕ) (i x r : ℕ) → (b ≡ true → i < m .«location_count») → (e ≡ true → i < m .«location_count»)
-      → SoundValues m l c vs → Stored l c x → Stored l c r → SoundValues m l c (pick b (withValue vs i x) (pick e (withValue vs i r) vs))
+      → SoundValues m l c vs → Stored l c x → Stored l c r → SoundValues m l c (pick b (withAt vs i x) (pick e (withAt vs i r) vs))
   stored-by true e vs i x r f g s t u = with-value vs i x (f refl) s t
   stored-by false true vs i x r f g s t u = with-value vs i r (g refl) s u
   stored-by false false vs i x r f g s t u = s
@@ -107,11 +107,6 @@ module _ {m : Model} {l : List ℕ} {c : ℕ} where
       (λ e. F .loc (named-extend (a .op) (eqb-true (a .op) 2 e)) .below) s t u
 
 -- each value by its location
-each-long : (f : ℕ → ℕ → ℕ) (l r : List ℕ) → length (each2 f l r) ≡ length l
-unfolding each2
-each-long f [] r = refl
-each-long f (x ∷ xs) r = ap suc (each-long f xs (drop 1 r))
-
 module _ {m : Model} (g : Grounds m) {l : List ℕ} {c : ℕ} (f : ℕ → ℕ → ℕ) (keeps : (v n : ℕ) → Stored l c v → Stored l c (f v n)) (none : f 0 0 ≡ 0) where
   each-past : (vs : List ℕ) → SoundValues m l c vs → (i : ℕ) → m .«location_count» ≤ i → (b : Bool) → ltb i (length vs) ≡ b
       → getD (each2 f vs (m .locations)) i 0 ≡ 0

@@ -9,10 +9,9 @@ use lib.ListN.{length, getD, set, length-set, length-map}
 use lib.Seq.{getD-set-same, getD-set-other}
 use lib.Dec.{ltb, eqb}
 use borrow.Author.Tests.{ltb-true, ltb-false, lt-ltb, le-ltb, leb-false, eqb-true, eqb-false}
-use Rattle.terms.specs.Base.{pick}
-use Rattle.terms.specs.Table.{wipe}
+use Rattle.terms.specs.Base.{pick, filled}
 use Rattle.terms.specs.Promise.{Grows}
-use Rattle.terms.proofs.Back.{wipe-long, wipe-before, wipe-behind, wipe-within}
+use Rattle.terms.proofs.Back.{fill-long, fill-before, fill-behind, fill-within}
 use Rattle.terms.proofs.Meaning.{also-right, also-both}
 use Rattle.model.specs.Records.{lengthAt}
 use Rattle.model.proofs.Tests.{also-never}
@@ -23,7 +22,7 @@ use Rattle.state.specs.declared.slot.Slot.{Slot}
 use Rattle.state.proofs.Pack.{SmallSlot, slot-small, slot-packed}
 use Rattle.state.proofs.Threads.{never, reset-at}
 use Rattle.state.proofs.Frame.{slot-there}
-use Rattle.rules.specs.Effect.{placeOf, withVar, filled, cleared, bound}
+use Rattle.rules.specs.Effect.{placeOf, withVar, cleared, bound}
 use Rattle.rules.specs.Restart.{varReset, eachSlot, varsReset}
 use Rattle.audit.specs.Configuration.{isBound}
 use Rattle.audit.specs.Whole.{Stored, VarSound, SoundVars}
@@ -50,29 +49,24 @@ module _ (slots : List ℕ) (twelve : length slots ≡ 12) (i n : ℕ) (h : i < 
 free-sound : (l : List ℕ) (c : ℕ) (s : Slot) (k v : ℕ) → isBound s k ≡ false → v ≡ 0 → VarSound l c s k v
 free-sound l c s k v f e = record { bound = λ b. absurd (never (isBound s k) b f); unbound = λ b. e }
 
--- clearing is wiping
-fill-wipe : (n i : ℕ) (vs : List ℕ) → filled 0 n i vs ≡ wipe n i vs
-unfolding filled wipe
-fill-wipe zero i vs = refl
-fill-wipe (suc n) i vs = fill-wipe n (i + 1) (set vs i 0)
-
+-- clearing a slot unbinds its variables, and no other
 module _ (vars : List ℕ) (i : ℕ) (h : i < 12) where
-  clear-wipe : cleared 0 vars i ≡ wipe 16 (i * 16 + 0) vars
+  clear-fill : cleared 0 vars i ≡ filled 0 16 (i * 16 + 0) vars
   unfolding cleared placeOf
-  clear-wipe = rw (lt-ltb i 12 h) (fill-wipe 16 (i * 16 + 0) vars)
+  clear-fill = rw (lt-ltb i 12 h)
 
   pub clear-long : length (cleared 0 vars i) ≡ length vars
-  clear-long = ap length clear-wipe ∙ wipe-long 16 (i * 16 + 0) vars
+  clear-long = ap length clear-fill ∙ fill-long 0 16 (i * 16 + 0) vars
 
   clear-here : (k : ℕ) → k < 16 → getD (cleared 0 vars i) (i * 16 + k) 0 ≡ 0
-  clear-here k g = ap (λ (r : List ℕ). getD r (i * 16 + k) 0) clear-wipe ∙ wipe-within 16 (i * 16 + 0) vars (i * 16 + k) (omega arith) (omega arith)
+  clear-here k g = ap (λ (r : List ℕ). getD r (i * 16 + k) 0) clear-fill ∙ fill-within 0 16 (i * 16 + 0) vars (i * 16 + k) (omega arith) (omega arith)
 
-  clear-by : (b : Bool) (j k : ℕ) → ltb j i ≡ b → (j ≡ i → ⊥) → k < 16 → getD (wipe 16 (i * 16 + 0) vars) (j * 16 + k) 0 ≡ getD vars (j * 16 + k) 0
-  clear-by true j k e d g = let q = ltb-true j i e in wipe-before 16 (i * 16 + 0) vars (j * 16 + k) (omega arith)
-  clear-by false j k e d g = let q = ltb-false j i e in let r : i < j = omega (arith, d) in wipe-behind 16 (i * 16 + 0) vars (j * 16 + k) (omega arith)
+  clear-by : (b : Bool) (j k : ℕ) → ltb j i ≡ b → (j ≡ i → ⊥) → k < 16 → getD (filled 0 16 (i * 16 + 0) vars) (j * 16 + k) 0 ≡ getD vars (j * 16 + k) 0
+  clear-by true j k e d g = let q = ltb-true j i e in fill-before 0 16 (i * 16 + 0) vars (j * 16 + k) (omega arith)
+  clear-by false j k e d g = let q = ltb-false j i e in let r : i < j = omega (arith, d) in fill-behind 0 16 (i * 16 + 0) vars (j * 16 + k) (omega arith)
 
   clear-there : (j k : ℕ) → (j ≡ i → ⊥) → k < 16 → getD (cleared 0 vars i) (j * 16 + k) 0 ≡ getD vars (j * 16 + k) 0
-  clear-there j k d g = ap (λ (r : List ℕ). getD r (j * 16 + k) 0) clear-wipe ∙ clear-by (ltb j i) j k refl d g
+  clear-there j k d g = ap (λ (r : List ℕ). getD r (j * 16 + k) 0) clear-fill ∙ clear-by (ltb j i) j k refl d g
 
 -- slot i gets a thread before its first action, or none
 module _ {l : List ℕ} {c : ℕ} (slots vars : List ℕ) (s : SoundVars l c slots vars) (twelve : length slots ≡ 12) (i n : ℕ) (h : i < 12) where

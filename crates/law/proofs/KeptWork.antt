@@ -8,9 +8,10 @@ use native.Mathlib.Omega.{arith}
 use lib.ListN.{length, getD, List·getD-eq-default}
 use lib.Dec.{ltb, eqb}
 use borrow.Author.Tests.{ltb-true, ltb-false, lt-ltb, eqb-true}
+use Rattle.walk.specs.Base.{All}
 use Rattle.terms.specs.Base.{pick, Held, held}
 use Rattle.terms.specs.Line.{termAt}
-use Rattle.terms.specs.Tree.{Tree, nought, isGround}
+use Rattle.terms.specs.Tree.{Tree, nought, isGround, enter}
 use Rattle.terms.specs.Meaning.{trees, treeOf, means, Den}
 use Rattle.terms.specs.Sound.{Sound}
 use Rattle.terms.specs.Promise.{Grows, Each, none, one, Adds, Takes}
@@ -39,7 +40,7 @@ use Rattle.rules.specs.declared.work.Tried.{Tried}
 use Rattle.audit.specs.Sound.{SoundModel, FitAction}
 use Rattle.audit.specs.Configuration.{isBound}
 use Rattle.audit.specs.Whole.{SoundTerms, Stored, SoundValues, VarSound, SoundVars, SoundConfig}
-use Rattle.law.specs.Like.{Leaves, at, All}
+use Rattle.law.specs.Like.{Leaves, at}
 use Rattle.law.proofs.Fine.{form-function}
 use Rattle.law.proofs.Leaves.{all-last, all-at, leaves-subst, all-enter}
 use Rattle.law.proofs.KeptLeaves.{all-more, LeafSound, leaf-none, leaf-later, terms-leaves, line-nonce, line-code}
@@ -58,7 +59,7 @@ module _ {Q : ℕ → ℕ → Type 0} {l : List ℕ} {c : ℕ} {k : List ℕ} {d
   met-by gr lv (Adds.deep h) = refused
   met-by gr lv (Adds.listed h n) = labelled g f sx (stored-den n gr)
   met-by gr lv (Adds.new h n r w n2 t) =
-      labelled (grows-then g w) (rw t (all-last f lv)) (stored-grows w sx) (stored-den n2 gr)
+      labelled (grows-then g w) (rw t (all-last (Leaves Q) (trees k d) f lv)) (stored-grows w sx) (stored-den n2 gr)
   met-by gr lv (Adds.full h n r) = refused
 
   met : {w : Want} → WantFine Q k d w → TriedFine Q l c (meetWant k d x y w)
@@ -76,9 +77,9 @@ module _ {Q : ℕ → ℕ → Type 0} {l : List ℕ} {c : ℕ} {z w : Tree} (non
   tried-by (Takes.deep d) = refused
   tried-by (Takes.full d e) = refused
   tried-by (Takes.done {m = k} {d = d} {i = i} {j = j} flat g dx dy t) =
-      let e : All (Leaves Q) (trees k d) = rw t (all-enter (all-enter f lz) lw) in
+      let e : All (Leaves Q) (trees k d) = rw t (all-enter (enter (trees l c) z) (all-enter (trees l c) f lz) lw) in
       let sx : Stored k d i = stored-den dx gz in
-      met g e sx j (fine-want (g .sound) (g .long) (all-at nought (at none) e) i j v n sx (stored-grows g sv) a small h q)
+      met g e sx j (fine-want (g .sound) (g .long) (all-at (Leaves Q) (trees k d) nought (at none) e) i j v n sx (stored-grows g sv) a small h q)
 
 -- labels and what they denote
 module _ (l : List ℕ) (c : ℕ) where
@@ -93,7 +94,7 @@ module _ (l : List ℕ) (c : ℕ) where
 
 tree-leaf : {Q : ℕ → ℕ → Type 0} (l : List ℕ) (c : ℕ) → Q 0 0 → All (Leaves Q) (trees l c) → (j : ℕ) → Leaves Q (treeOf l c j)
 unfolding treeOf
-tree-leaf l c z f j = all-at nought (at z) f j
+tree-leaf {Q} l c z f j = all-at (Leaves Q) (trees l c) nought (at z) f j
 
 -- every value and every variable is a stored label
 module _ {l : List ℕ} {c : ℕ} (S : Sound l c) (p : length l ≡ 512) where
@@ -165,13 +166,13 @@ next-fit M {q = q} t = M .programs (q .program) (t .program) .actions (q .positi
 -- the table after the work
 pub grown-terms : {m : Model} {l k : List ℕ} {c d nonce after : ℕ} → SoundTerms m l c nonce → Grows l c k d
     → All (Leaves (LeafSound after (m .programs))) (trees k d) → SoundTerms m k d after
-grown-terms T g f = record {
+grown-terms {m} {after = after} T g f = record {
   table = g .sound;
   long = g .long;
   more = omega (arith, T .more, g .rises);
   begins = λ i h. term-grows g i (omega (arith, T .more, h)) ∙ T .begins i h;
-  nonces = line-nonce (g .sound) (g .long) f;
-  codes = line-code (g .sound) (g .long) f;
+  nonces = line-nonce after (m .programs) (g .sound) (g .long) f;
+  codes = line-code after (m .programs) (g .sound) (g .long) f;
 }
 
 -- the program of a jump
@@ -211,7 +212,8 @@ module _ {m : Model} (M : SoundModel m) {l : List ℕ} {s : Control} (C : SoundC
       let small : s .frame .nonce < 65535 = omega (arith, C .frame .nonce, few) in
       let Q : ℕ → ℕ → Type 0 = LeafSound (nonceAfter (a .op) (s .frame .nonce)) (m .programs) in
       let up : s .frame .nonce ≤ nonceAfter (a .op) (s .frame .nonce) = nonce-up (a .op) (s .frame .nonce) in
-      let f : All (Leaves Q) (trees l c) = all-more (leaf-later (s .frame .nonce) (nonceAfter (a .op) (s .frame .nonce)) (m .programs) up) (terms-leaves T) in
+      let f : All (Leaves Q) (trees l c) =
+      all-more (leaf-later (s .frame .nonce) (nonceAfter (a .op) (s .frame .nonce)) (m .programs) up) (trees l c) (terms-leaves T) in
       let z : Q 0 0 = leaf-none (nonceAfter (a .op) (s .frame .nonce)) (m .programs) in
       let vs : (j : ℕ) → Stored l c (getD (s .vars) j 0) = vars-stored S p (s .frame .slots) (s .vars) (C .vars) in
       let ws : List Tree = map (treeOf l c) (s .vars) in

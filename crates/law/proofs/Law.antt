@@ -20,12 +20,12 @@ use Rattle.audit.specs.Configuration.{soundControl}
 use Rattle.law.specs.Out.{Out, ok}
 use Rattle.law.specs.Rules.{State, Made, layoutOf, freshState, stepR}
 use Rattle.law.specs.Runs.{stateAfter, runRules, runLabels}
-use Rattle.law.specs.Meant.{meant, deedIn, bare, meantMade, answer}
+use Rattle.law.specs.Meant.{Sized, meant, deedIn, bare, meantMade, answer}
 use Rattle.law.specs.Like.{Like, LikeMade, Exactly, both, neither, Near, Fine}
 use Rattle.law.proofs.Exact.{steps-exactly}
 use Rattle.law.proofs.Near.{free}
 use Rattle.law.proofs.Fine.{sound-fine}
-use Rattle.law.proofs.Stands.{Sized, fresh-like, sound-like}
+use Rattle.law.proofs.Stands.{fresh-like, sound-like}
 
 -- labels beside their terms: the terms are what the labels denote
 each-is : {l : List ℕ} {c : ℕ} {vs : List ℕ} {ws : List Tree} → Each (Den l c) vs ws → map (treeOf l c) vs ≡ ws

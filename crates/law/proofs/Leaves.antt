@@ -7,6 +7,8 @@ use mathlib.Core.List.{List, [], _∷_, _++_}
 use lib.ListN.{length, getD}
 use lib.Dec.{eqb, leb}
 use borrow.Author.Tests.{eqb-true}
+use Rattle.walk.specs.Base.{All}
+use Rattle.walk.proofs.Lists.{all-append}
 use Rattle.terms.specs.Base.{pick}
 use Rattle.terms.specs.Tree.{Tree, leaf, sealed, nought, same, substT, member, with, enter}
 use Rattle.model.specs.declared.records.Action.{Action}
@@ -14,7 +16,7 @@ use Rattle.law.specs.Out.{Out, ok, refuse, andThen}
 use Rattle.law.specs.Size.{fits, fitsBoth, fitsOne}
 use Rattle.law.specs.Act.{firstOf, secondOf, numOf, isA, needs, result}
 use Rattle.law.specs.Rules.{Acted, acted}
-use Rattle.law.specs.Like.{Leaves, at, in-sealed, in-applied, in-joined, All, none, one}
+use Rattle.law.specs.Like.{Leaves, at, in-sealed, in-applied, in-joined}
 
 -- P holds of what there is, if it is no refusal
 pub data Holds {A : Type 0} (P : A → Type 0) : Out A → Type 0 where
@@ -34,17 +36,20 @@ holds-pick : {A : Type 0} {P : A → Type 0} {o q : Out A} (b : Bool) → (b ≡
 holds-pick true f h = f refl
 holds-pick false f h = h
 
-module _ {A : Type 0} {P : A → Type 0} where
+module _ {A : Type 0} (P : A → Type 0) where
   -- one more behind
-  pub all-last : {l : List A} {a : A} → All P l → P a → All P (l ++ (a ∷ []))
-  all-last none p = one p none
-  all-last (one q ps) p = one q (all-last ps p)
+  pub all-last : (l : List A) {a : A} → All P l → P a → All P (l ++ (a ∷ []))
+  all-last l {a} ps p = all-append P l (a ∷ []) ps (p, tt)
+
+  pick-all : (l r : List A) (b : Bool) → All P l → All P r → All P (pick b l r)
+  pick-all l r true p q = p
+  pick-all l r false p q = q
 
   -- an element, or what stands for none
-  pub all-at : {l : List A} (d : A) → P d → All P l → (i : ℕ) → P (getD l i d)
-  all-at d p none i = p
-  all-at d p (one q qs) zero = q
-  all-at d p (one q qs) (suc i) = all-at d p qs i
+  pub all-at : (l : List A) (d : A) → P d → All P l → (i : ℕ) → P (getD l i d)
+  all-at [] d p ps i = p
+  all-at (a ∷ l) d p ps zero = ps .0
+  all-at (a ∷ l) d p ps (suc i) = all-at l d p (ps .1) i
 
 module _ {Q : ℕ → ℕ → Type 0} where
   pub leaf-of : {k a : ℕ} → Leaves Q (leaf k a) → Q k a
@@ -76,21 +81,17 @@ module _ {Q : ℕ → ℕ → Type 0} where
   leaves-subst ws o f (in-applied p) = in-applied (leaves-subst ws o f p)
   leaves-subst ws o f (in-joined p q) = in-joined (leaves-subst ws o f p) (leaves-subst ws o f q)
 
-  pick-all : {ks ls : List Tree} (b : Bool) → All (Leaves Q) ks → All (Leaves Q) ls → All (Leaves Q) (pick b ks ls)
-  pick-all true p q = p
-  pick-all false p q = q
-
-  all-with : {ks : List Tree} {x : Tree} → All (Leaves Q) ks → Leaves Q x → All (Leaves Q) (with ks x)
+  all-with : (ks : List Tree) {x : Tree} → All (Leaves Q) ks → Leaves Q x → All (Leaves Q) (with ks x)
   unfolding with
-  all-with {ks} {x} p q = pick-all (member x ks) p (all-last p q)
+  all-with ks {x} p q = pick-all (Leaves Q) ks (ks ++ (x ∷ [])) (member x ks) p (all-last (Leaves Q) ks p q)
 
   -- entering a term
-  pub all-enter : {ks : List Tree} {x : Tree} → All (Leaves Q) ks → Leaves Q x → All (Leaves Q) (enter ks x)
+  pub all-enter : (ks : List Tree) {x : Tree} → All (Leaves Q) ks → Leaves Q x → All (Leaves Q) (enter ks x)
   unfolding enter
-  all-enter p (at q) = all-with p (at q)
-  all-enter p (in-sealed q) = all-with (all-enter p q) (in-sealed q)
-  all-enter p (in-applied q) = all-with (all-enter p q) (in-applied q)
-  all-enter p (in-joined q r) = all-with (all-enter (all-enter p q) r) (in-joined q r)
+  all-enter ks p (at q) = all-with ks p (at q)
+  all-enter ks p (in-sealed {x = x} q) = all-with (enter ks x) (all-enter ks p q) (in-sealed q)
+  all-enter ks p (in-applied {x = x} q) = all-with (enter ks x) (all-enter ks p q) (in-applied q)
+  all-enter ks p (in-joined {x = x} {y = y} q r) = all-with (enter (enter ks x) y) (all-enter (enter ks x) (all-enter ks p q) r) (in-joined q r)
 
   module _ {v x y : Tree} (z : Q 0 0) (pv : Leaves Q v) (px : Leaves Q x) (py : Leaves Q y) where
     sealing-leaves : (kind key : ℕ) → Holds (Leaves Q) (needs (isA key y) (ok (sealed kind x (numOf y))))
@@ -130,16 +131,16 @@ pub record CleanActed (Q : ℕ → ℕ → Type 0) (t : Acted) : Type 0 where
   pub result : Leaves Q (t .result)
 
 module _ {Q : ℕ → ℕ → Type 0} where
-  fits-holds : (lim : Bool) (n : ℕ) {ks : List Tree} → All (Leaves Q) ks → Holds (All (Leaves Q)) (fits lim n ks)
+  fits-holds : (lim : Bool) (n : ℕ) (ks : List Tree) → All (Leaves Q) ks → Holds (All (Leaves Q)) (fits lim n ks)
   unfolding fits
-  fits-holds true n {ks} p = holds-pick (leb n 16) (λ t. holds-pick (leb (length ks) 512) (λ u. held-ok p) held-no) held-no
-  fits-holds false n p = held-ok p
+  fits-holds true n ks p = holds-pick (leb n 16) (λ t. holds-pick (leb (length ks) 512) (λ u. held-ok p) held-no) held-no
+  fits-holds false n ks p = held-ok p
 
-  pub acting-leaves : (lim : Bool) {ks : List Tree} {v x y : Tree} (n : ℕ) (a : Action) → Q 0 0 → (a .op ≡ 18 → Q 7 n)
+  pub acting-leaves : (lim : Bool) (ks : List Tree) {v x y : Tree} (n : ℕ) (a : Action) → Q 0 0 → (a .op ≡ 18 → Q 7 n)
       → All (Leaves Q) ks → Leaves Q v → Leaves Q x → Leaves Q y
       → Holds (CleanActed Q) (andThen (fitsBoth lim ks x y) (λ js. andThen (result a v x y n) (λ r. andThen (fitsOne lim js r) (λ ls. ok (acted ls x y r)))))
-  acting-leaves lim n a z nonce pk pv px py =
-      holds-then (fits-holds lim _ (all-enter (all-enter pk px) py)) (λ js pj.
+  acting-leaves lim ks {x = x} {y = y} n a z nonce pk pv px py =
+      holds-then (fits-holds lim _ (enter (enter ks x) y) (all-enter (enter ks x) (all-enter ks pk px) py)) (λ js pj.
       holds-then (result-leaves z pv px py n a nonce) (λ r pr.
-      holds-then (fits-holds lim _ (all-enter pj pr)) (λ ls pl.
+      holds-then (fits-holds lim _ (enter js r) (all-enter js pj pr)) (λ ls pl.
       held-ok (record { known = pl; x = px; y = py; result = pr }))))

@@ -11,8 +11,7 @@ use Rattle.terms.specs.Tree.{Tree}
 use Rattle.model.specs.declared.records.Action.{Action}
 use Rattle.model.specs.declared.records.Model.{Model}
 use Rattle.state.specs.Code.{wayOf}
-use Rattle.state.specs.Early.{earlyOf}
-use Rattle.state.specs.Seek.{sightOf}
+use Rattle.state.specs.Early.{sightOf, earlyOf}
 use Rattle.state.specs.declared.code.Way.{Way}
 use Rattle.state.specs.declared.code.Way.the-variants as W
 use Rattle.state.specs.declared.control.Control.{Control}

@@ -20,25 +20,16 @@ use Rattle.audit.specs.Sound.{SoundModel}
 use Rattle.law.specs.Out.{Out}
 use Rattle.law.specs.Rules.{Made}
 use Rattle.law.specs.Meant.{bare}
-use Rattle.law.specs.Like.{Like, LikeMade, Exactly, Follows, Fine}
-use Rattle.law.specs.Machines.{refusedAs, RulesConf, triedRules, rules, LabelsConf, triedLabels, labels}
+use Rattle.law.specs.Like.{LikeMade, Exactly, Follows, Fine}
+use Rattle.law.specs.Machines.{refusedAs, RulesConf, triedRules, rules, LabelsConf, triedLabels, labels, Stand, Blind}
 use Rattle.law.proofs.Exact.{steps-exactly}
 use Rattle.law.proofs.Near.{follows}
 use Rattle.law.proofs.Fine.{sound-fine}
 use Rattle.law.proofs.Stands.{fine-fresh}
 
--- the configuration stands for the state, and the events are the same but for their labels
-pub record Stand (m : Model) (c : LabelsConf) (d : RulesConf) : Type 0 where
-  pub like : Like m (c .table) (c .control) (d .state)
-  pub events : map bare (c .events) ≡ d .events
-
 map-last : (es : List Happening) (h : Happening) → map bare (es ++ (h ∷ [])) ≡ map bare es ++ (bare h ∷ [])
 map-last [] h = refl
 map-last (e ∷ es) h = ap (λ (r : List Happening). bare e ∷ r) (map-last es h)
-
--- the claim looks at no label
-abbrev pub Blind : (List Happening → Happening → Bool) → Type 0
-Blind judge = (es : List Happening) (h : Happening) → judge (map bare es) (bare h) ≡ judge es h
 
 module _ {m : Model} (judge : List Happening → Happening → Bool) (blind : Blind judge) where
   refused-agree : (n : ℕ) → F.Agrees (Stand m) (refusedAs n) (refusedAs n)

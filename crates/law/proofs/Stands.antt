@@ -9,6 +9,7 @@ use lib.ListN.{length, getD, replicate, take}
 use lib.Seq.{ext-getD, getD-take, length-take-le}
 use lib.Dec.{eqb, ltb, leb}
 use borrow.Author.Tests.{ltb-true, leb-true, eqb-true}
+use Rattle.walk.specs.Base.{All}
 use Rattle.terms.specs.Base.{pick, also}
 use Rattle.terms.specs.Term.{shapeOf, partsBy, partsBelow}
 use Rattle.terms.specs.Line.{lineAt, termAt, groundIn}
@@ -31,19 +32,19 @@ use Rattle.audit.specs.Sound.{SoundModel}
 use Rattle.audit.specs.Listed.{storedValue}
 use Rattle.audit.specs.Models.{namesProgram}
 use Rattle.audit.specs.Configuration.{beginsWith, leafSound, leavesSound, tableSound, countersSound, isBound, varSound, varsSound, valueSound, valuesSound, slotsSound, serialsDiffer, locksSound, threadsFit, soundControl}
-use Rattle.audit.proofs.Laws.{each-at}
+use Rattle.terms.proofs.Each.{each-at}
 use Rattle.law.specs.Rules.{freshState}
-use Rattle.law.specs.Like.{Leaves, at, in-sealed, in-applied, in-joined, All, Like, Fine}
-use Rattle.law.specs.Meant.{meant}
+use Rattle.law.specs.Like.{Leaves, at, in-sealed, in-applied, in-joined, Named, Like, Fine}
+use Rattle.law.specs.Meant.{Sized, meant}
 use Rattle.law.proofs.Fine.{sound-fine}
 
 -- The leaves of a table's terms
 
-all-from : {A : Type 0} {P : A → Type 0} (d : A) (l : List A) → ((i : ℕ) → i < length l → P (getD l i d)) → All P l
-all-from d [] f = All.none
-all-from d (x ∷ l) f = All.one (f 0 (omega arith)) (all-from d l (λ i h. f (suc i) (omega arith)))
+all-from : {A : Type 0} (P : A → Type 0) (d : A) (l : List A) → ((i : ℕ) → i < length l → P (getD l i d)) → All P l
+all-from P d [] f = tt
+all-from P d (x ∷ l) f = (f 0 (omega arith), all-from P d l (λ i h. f (suc i) (omega arith)))
 
-module _ {Q : ℕ → ℕ → Type 0} where
+module _ (Q : ℕ → ℕ → Type 0) where
   leaves-by : (s : Shape) (k a b n : ℕ) (ts : List Tree) → Q k a → partsBy s a b n ≡ true
       → ((j : ℕ) → j < n → Leaves Q (getD ts j nought)) → Leaves Q (buildBy s k a b ts)
   leaves-by Bare k a b n ts q p f = at q
@@ -68,7 +69,7 @@ module _ {Q : ℕ → ℕ → Type 0} where
     -- where every line that is a leaf has Q, every leaf of every term has
     pub table-leaves : All (Leaves Q) (trees l c)
     unfolding treeOf
-    table-leaves = all-from nought (trees l c) (λ i h. let e = length-trees l c long (sound .room) in leaves-in c i (omega arith) (omega arith))
+    table-leaves = all-from (Leaves Q) nought (trees l c) (λ i h. let e = length-trees l c long (sound .room) in leaves-in c i (omega arith) (omega arith))
 
 -- Labels, each beside its term
 
@@ -81,9 +82,9 @@ each-replicate : {A B : Type 0} {P : A → B → Type 0} (a : A) (b : B) → P a
 each-replicate a b p zero = Each.none
 each-replicate a b p (suc n) = Each.one p (each-replicate a b p n)
 
-each-meant : {l : List ℕ} {c : ℕ} {vs : List ℕ} → All (λ v. v < c) vs → Each (Den l c) vs (map (treeOf l c) vs)
-each-meant All.none = Each.none
-each-meant (All.one {a = v} h p) = Each.one (den-at v h) (each-meant p)
+each-meant : {l : List ℕ} {c : ℕ} (vs : List ℕ) → All (λ v. v < c) vs → Each (Den l c) vs (map (treeOf l c) vs)
+each-meant [] p = Each.none
+each-meant (v ∷ vs) p = Each.one (den-at v (p .0)) (each-meant vs (p .1))
 
 module _ {m : Model} (fine : Fine m) where
   first-values : Each (Den (m .lines) (m .count)) (firstValues (λ v. v) (m .locations)) (firstValues (treeOf (m .lines) (m .count)) (m .locations))
@@ -102,7 +103,7 @@ module _ {m : Model} (fine : Fine m) where
     values = first-values;
     vars = each-replicate 0 nought (den-nought (fine .table) (fine .long)) 192;
     nonce = omega arith;
-    codes = table-leaves (fine .table) (fine .long) (fine .codes);
+    codes = table-leaves (Named m) (fine .table) (fine .long) (fine .codes);
   }
 
 pub fresh-like : {m : Model} → SoundModel m → length (m .lines) ≡ 512 → Like m (m .lines) (freshControl m) (freshState m)
@@ -114,14 +115,14 @@ pub like-meant : {m : Model} {l : List ℕ} {s : Control} → Grows (m .lines) (
     → ((i : ℕ) → i < s .count → termAt l i .kind ≡ 8 → termAt l i .a < m .programs)
     → Like m l s (meant l s)
 unfolding meant
-like-meant g vals vars small codes = record {
+like-meant {m} {s = s} g vals vars small codes = record {
   table = g;
   known = refl;
   frame = refl;
-  values = each-meant vals;
-  vars = each-meant vars;
+  values = each-meant (s .values) vals;
+  vars = each-meant (s .vars) vars;
   nonce = small;
-  codes = table-leaves (g .sound) (g .long) codes;
+  codes = table-leaves (Named m) (g .sound) (g .long) codes;
 }
 
 -- tests that all hold
@@ -137,13 +138,6 @@ all-four p q r t e =
     let b = also-right q (also r t) a in
     record { first = also-left p (also q (also r t)) e; second = also-left q (also r t) a; third = also-left r t b; rest = also-right r t b }
 
--- what the types of the arrays say
-pub record Sized (m : Model) (l : List ℕ) (s : Control) : Type 0 where
-  pub lines : length (m .lines) ≡ 512
-  pub table : length l ≡ 512
-  pub values : length (s .values) ≡ 32
-  pub vars : length (s .vars) ≡ 192
-
 stored-small : (l : List ℕ) (n v : ℕ) → storedValue l n v ≡ true → v < n
 unfolding storedValue
 stored-small l n v e = ltb-true v n (also-left (ltb v n) (groundIn (lineAt l v)) e)
@@ -157,13 +151,13 @@ module _ {m : Model} {l : List ℕ} {s : Control} (size : Sized m l s) where
   values-small : 0 < s .count → valuesSound (s .values) l (s .count) (m .«location_count») ≡ true → All (λ v. v < s .count) (s .values)
   unfolding valuesSound valueSound
   values-small h e =
-      all-from 0 (s .values)
+      all-from (λ v. v < s .count) 0 (s .values)
       (λ i k. let z = size .values in label-or-zero (ltb i (m .«location_count»)) l (s .count) (getD (s .values) i 0) h (each-at 32 _ e i (omega arith)))
 
   vars-small : 0 < s .count → varsSound (s .vars) (s .frame .slots) l (s .count) ≡ true → All (λ v. v < s .count) (s .vars)
   unfolding varsSound varSound
   vars-small h e =
-      all-from 0 (s .vars)
+      all-from (λ v. v < s .count) 0 (s .vars)
       (λ i k.
       let z = size .vars in
       label-or-zero (isBound (slotAt (s .frame .slots) (i / 16)) (i % 16)) l (s .count) (getD (s .vars) i 0) h (each-at 192 _ e i (omega arith)))

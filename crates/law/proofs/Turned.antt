@@ -9,6 +9,7 @@ use native.Mathlib.Omega.{arith}
 use lib.ListN.{length}
 use lib.Dec.{eqb, ltb}
 use borrow.Author.Tests.{ltb-true, ltb-false, ne-eqb}
+use Rattle.walk.specs.Base.{All}
 use Rattle.terms.specs.Base.{pick, also, Held}
 use Rattle.terms.specs.Tree.{Tree, nought, deepness, same, enter}
 use Rattle.terms.proofs.Meaning.{also-left, also-right}
@@ -17,8 +18,7 @@ use Rattle.model.specs.declared.records.Model.{Model}
 use Rattle.state.specs.Reason.{Reason, firstOf, FirstIs, NoneHolds}
 use Rattle.state.specs.Code.{wayOf}
 use Rattle.state.specs.Control.{valueAt}
-use Rattle.state.specs.Early.{Sight, reasons, refusalOf, earlyOf}
-use Rattle.state.specs.Seek.{sightOf}
+use Rattle.state.specs.Early.{Sight, sightOf, reasons, refusalOf, earlyOf}
 use Rattle.state.specs.declared.code.Way.{Way}
 use Rattle.state.specs.declared.code.Way.the-variants as W
 use Rattle.state.specs.declared.control.Control.{Control}
@@ -31,11 +31,10 @@ use Rattle.law.specs.Out.{Out, ok, refuse, andThen}
 use Rattle.law.specs.Size.{fits, fitsOne}
 use Rattle.law.specs.Act.{numOf, firstOf as partOf, isA, needs, result}
 use Rattle.law.specs.Rules.{State, Acted, acted, Made, layoutOf, operand, acts, actionOf, goBy, stepR}
-use Rattle.law.specs.Like.{All, none, one, Exactly, both, neither}
-use Rattle.law.specs.Meant.{meant}
+use Rattle.law.specs.Like.{Exactly, both, neither}
+use Rattle.law.specs.Meant.{Sized, meant}
 use Rattle.law.specs.Turned.{refusalIn, turnedBy, tooDeep, tooMany, unfit, yielded, actReasons, workReasons, stepReasons}
 use Rattle.law.proofs.Tries.{fits-deep, fits-full, fits-ok}
-use Rattle.law.proofs.Stands.{Sized}
 use Rattle.law.proofs.Law.{sound-exactly}
 
 -- what does not fit is refused by 10 and by nothing else
@@ -110,18 +109,18 @@ then-turned (refuse n) f = refl
 
 -- reasons before and behind
 first-append : (rs ts : List Reason) → All (λ r. 0 < r .number) rs → firstOf (rs ++ ts) ≡ pick (eqb (firstOf rs) 0) (firstOf ts) (firstOf rs)
-first-append [] ts none = refl
-first-append (r ∷ rs) ts (one p ps) = go (r .holds) (first-append rs ts ps)
+first-append [] ts ps = refl
+first-append (r ∷ rs) ts ps = go (r .holds) (first-append rs ts (ps .1))
   where
     go : (b : Bool) → firstOf (rs ++ ts) ≡ pick (eqb (firstOf rs) 0) (firstOf ts) (firstOf rs)
         → pick b (r .number) (firstOf (rs ++ ts)) ≡ pick (eqb (pick b (r .number) (firstOf rs)) 0) (firstOf ts) (pick b (r .number) (firstOf rs))
-    go true h = let e : eqb (r .number) 0 ≡ false = ne-eqb (r .number) 0 (λ z. omega (arith, z, p)) in rw e
+    go true h = let e : eqb (r .number) 0 ≡ false = ne-eqb (r .number) 0 (λ z. omega (arith, z, ps .0)) in rw e
     go false h = h
 
 all-positive : (rs : List Reason) → positive rs ≡ true → All (λ r. 0 < r .number) rs
-all-positive [] h = none
+all-positive [] h = tt
 all-positive (r ∷ rs) h =
-    one (ltb-true 0 (r .number) (also-left (ltb 0 (r .number)) (positive rs) h)) (all-positive rs (also-right (ltb 0 (r .number)) (positive rs) h))
+    (ltb-true 0 (r .number) (also-left (ltb 0 (r .number)) (positive rs) h), all-positive rs (also-right (ltb 0 (r .number)) (positive rs) h))
 
 early-positive : (g : Sight) (w : Way) → All (λ r. 0 < r .number) (reasons g w)
 early-positive g w = all-positive (reasons g w) refl

@@ -2,8 +2,9 @@
 -- (Den of `terms`), and that is all there is between the two.
 use Prim.Native.Nat.{ℕ, _<_, _≤_}
 use mathlib.Core.Path.{_≡_}
-use mathlib.Core.List.{List, [], _∷_}
+use mathlib.Core.List.{List}
 use lib.ListN.{length}
+use Rattle.walk.specs.Base.{All}
 use Rattle.terms.specs.Base.{Held, held}
 use Rattle.terms.specs.Line.{termAt}
 use Rattle.terms.specs.Sound.{Sound}
@@ -27,11 +28,6 @@ pub data Leaves (Q : ℕ → ℕ → Type 0) : Tree → Type 0 where
   in-sealed : {k n : ℕ} {x : Tree} → Leaves Q x → Leaves Q (sealed k x n)
   in-applied : {k f : ℕ} {x : Tree} → Leaves Q x → Leaves Q (applied k f x)
   in-joined : {k : ℕ} {x y : Tree} → Leaves Q x → Leaves Q y → Leaves Q (joined k x y)
-
--- every element has P
-pub data All {A : Type 0} (P : A → Type 0) : List A → Type 0 where
-  none : All P []
-  one : {a : A} {l : List A} → P a → All P l → All P (a ∷ l)
 
 -- a code term (8) names a program
 abbrev pub Named : Model → ℕ → ℕ → Type 0

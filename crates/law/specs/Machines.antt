@@ -2,7 +2,8 @@
 -- judged by the same claim, which looks at events alone: `judge es h` says that event h, after the events es, breaks it.
 use Prim.Native.Nat.{ℕ}
 use mathlib.Core.Bool.{Bool}
-use mathlib.Core.List.{List, [], _∷_, _++_}
+use mathlib.Core.List.{List, [], _∷_, _++_, map}
+use mathlib.Core.Path.{_≡_}
 use lib.Dec.{eqb}
 use Rattle.walk.specs.Machine.{Machine, Outcome, refused, tooBig, goes, breaks}
 use Rattle.terms.specs.Base.{pick, Held}
@@ -17,6 +18,8 @@ use Rattle.rules.specs.declared.inner.Reply.the-variants.{Refused, Permitted}
 use Rattle.rules.specs.declared.inner.Stepped.{Stepped}
 use Rattle.law.specs.Out.{Out, ok, refuse}
 use Rattle.law.specs.Rules.{State, Made, layoutOf, freshState, stepR}
+use Rattle.law.specs.Meant.{bare}
+use Rattle.law.specs.Like.{Like}
 
 -- "refused by 8 or 9", or by another number
 abbrev pub refusedAs : {C : Type 0} → ℕ → Outcome C
@@ -41,15 +44,18 @@ rules lim judge codes m = record {
   none = 164;
 }
 
--- a term table, the control beside it, and the events so far
+-- a term table, the control beside it, and the events so far, the first first: where a run or a search stands
 pub record LabelsConf : Type 0 where
   pub table : List ℕ
   pub control : Control
   pub events : List Happening
 
+abbrev pub conf : List ℕ → Control → List Happening → LabelsConf
+conf l s hs = record { table = l; control = s; events = hs }
+
 abbrev pub triedBy : (List Happening → Happening → Bool) → List Happening → Reply → Control → List ℕ → Outcome LabelsConf
 triedBy judge es (Refused n) s l = refusedAs n
-triedBy judge es (Permitted h) s l = pick (judge es h) breaks (goes (record { table = l; control = s; events = es ++ (h ∷ []) }))
+triedBy judge es (Permitted h) s l = pick (judge es h) breaks (goes (conf l s (es ++ (h ∷ []))))
 
 abbrev pub triedLabels : (List Happening → Happening → Bool) → List Happening → Held Stepped → Outcome LabelsConf
 triedLabels judge es w = triedBy judge es (w .out .reply) (w .out .control) (w .table)
@@ -58,8 +64,17 @@ triedLabels judge es w = triedBy judge es (w .out .reply) (w .out .control) (w .
 abbrev pub labels : (List Happening → Happening → Bool) → List ℕ → Model → Machine
 labels judge codes m = record {
   Conf = LabelsConf;
-  fresh = record { table = m .lines; control = freshControl m; events = [] };
+  fresh = conf (m .lines) (freshControl m) [];
   try = λ c k. triedLabels judge (c .events) (stepOn (c .table) (c .control) (layoutOf m) (m .«machine_count») k);
   codes = codes;
   none = 164;
 }
+
+-- a configuration of the one stands for a configuration of the other, and the events are the same but for their labels
+pub record Stand (m : Model) (c : LabelsConf) (d : RulesConf) : Type 0 where
+  pub like : Like m (c .table) (c .control) (d .state)
+  pub events : map bare (c .events) ≡ d .events
+
+-- the claim looks at no label
+abbrev pub Blind : (List Happening → Happening → Bool) → Type 0
+Blind judge = (es : List Happening) (h : Happening) → judge (map bare es) (bare h) ≡ judge es h

@@ -1,9 +1,12 @@
 -- What the machine's tables and answers mean: the term of every label written out. With that the theorem is one equation,
 -- `step-is-rules` of proofs/Law.antt: what the machine answers means what the rules answer.
 use Prim.Native.Nat.{ℕ}
+use mathlib.Core.Path.{_≡_}
 use mathlib.Core.List.{List, map}
+use lib.ListN.{length}
 use Rattle.terms.specs.Base.{Held}
 use Rattle.terms.specs.Meaning.{trees, treeOf}
+use Rattle.model.specs.declared.records.Model.{Model}
 use Rattle.state.specs.declared.control.Control.{Control}
 use Rattle.rules.specs.Event.{deed, noDeed, happening}
 use Rattle.rules.specs.declared.event.Deed.{Deed}
@@ -15,6 +18,13 @@ use Rattle.rules.specs.declared.inner.Reply.the-variants.{Refused, Permitted}
 use Rattle.rules.specs.declared.inner.Stepped.{Stepped}
 use Rattle.law.specs.Out.{Out, ok, refuse}
 use Rattle.law.specs.Rules.{State, Made}
+
+-- what the types of the arrays say, as far as the theorem needs it: less than Arrays and Lengths of `audit` say
+pub record Sized (m : Model) (l : List ℕ) (s : Control) : Type 0 where
+  pub lines : length (m .lines) ≡ 512
+  pub table : length l ≡ 512
+  pub values : length (s .values) ≡ 32
+  pub vars : length (s .vars) ≡ 192
 
 -- the state that a configuration stands for
 unfoldable pub meant : List ℕ → Control → State

@@ -12,8 +12,7 @@ use Rattle.model.specs.declared.records.Model.{Model}
 use Rattle.state.specs.Reason.{Reason, reason}
 use Rattle.state.specs.Code.{wayOf}
 use Rattle.state.specs.Control.{valueAt}
-use Rattle.state.specs.Early.{reasons}
-use Rattle.state.specs.Seek.{sightOf}
+use Rattle.state.specs.Early.{sightOf, reasons}
 use Rattle.state.specs.declared.code.Way.{Way}
 use Rattle.state.specs.declared.code.Way.the-variants as W
 use Rattle.rules.specs.declared.inner.Reply.{Reply}

@@ -24,7 +24,7 @@ pub enum Goal {
 }
 
 impl Goal {
-    // The bound is from 1 to this.
+    // The bound is from 1 to this: a search's bound (`Place::BOUND`), which this crate does not see.
     pub const BOUND: u32 = 24;
     // The budget is at most this.
     pub const BUDGET: u32 = 4294967295;

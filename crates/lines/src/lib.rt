@@ -1,5 +1,5 @@
-// Lines of bytes: fields and decimals read from an input, words and decimals written to an output. Nothing here
-// knows what the lines are about.
+// Lines of bytes: fields and decimals read from an input, words and decimals written to an output. This crate depends
+// on no other.
 //
 //   field   a line cut at its LF, and its decimal fields, each handing the rest of the line on
 //   tail    where an input's last line starts, and the run of lines at its end that open with one letter

@@ -15,10 +15,10 @@ use Rattle.audit.specs.Whole.{Arrays, Lengths, SoundConfig}
 use Rattle.audit.proofs.Check.{test-model, model-test}
 use Rattle.audit.proofs.Whole.{test-control, control-test}
 use Rattle.law.proofs.KeptStep.{step-sound}
+use Rattle.law.specs.Machines.{conf}
 use Rattle.machine.specs.Step.{isSound, stepChecked}
 use Rattle.machine.specs.Run.{triedOf, runOn}
-use Rattle.machine.specs.Fold.{stand, foldSteps}
-use Rattle.machine.proofs.Folds.{Folds}
+use Rattle.machine.specs.Fold.{foldSteps, Folds}
 use Rattle.machine.proofs.Whole.{run-checked}
 
 -- model and configuration are sound
@@ -31,7 +31,7 @@ module _ (m : Model) (A : Arrays m) where
   both-test l s b = also-both (model-test (A .lines) (b .model)) (control-test A (b .config))
 
   pub run-is-steps : (l : List ℕ) (s : Control) → Lengths l s → (codes ans rs : List ℕ)
-      → Folds rs ans 0 (runOn l m s codes ans rs) (foldSteps (λ t c code. stepChecked t m c code) (roomIn rs) (stand l s []) (triedOf codes ans))
+      → Folds rs ans 0 (runOn l m s codes ans rs) (foldSteps (λ t c code. stepChecked t m c code) (roomIn rs) (conf l s []) (triedOf codes ans))
   run-is-steps l s L codes ans rs =
       run-checked m l s codes ans rs (A .lines) (L .lines) (Both m) both-test
       (λ t c code b h e. record { model = b .model; config = step-sound (b .model) A (b .config) code })

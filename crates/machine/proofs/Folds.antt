@@ -22,24 +22,13 @@ use Rattle.rules.specs.declared.event.Happening.{Happening}
 use Rattle.rules.specs.declared.inner.Reply.{Reply}
 use Rattle.rules.specs.declared.inner.Reply.the-variants as R
 use Rattle.rules.specs.declared.inner.Stepped.{Stepped}
+use Rattle.law.specs.Machines.{LabelsConf, conf}
 use Rattle.machine.specs.Recorded.{isReal, Holds}
 use Rattle.machine.specs.Run.{outcome, ran, Left, left, permittedOn, turnOn, turnFrom, oneTurn, Course, course, goBy, stepsFrom}
-use Rattle.machine.specs.Fold.{Stand, stand, answered, replied, afterStep, Folded, folded, withAnswer, foldBy, foldSteps}
+use Rattle.machine.specs.Fold.{answered, replied, afterStep, Folded, folded, withAnswer, foldBy, foldSteps, Folds}
 use Rattle.machine.specs.declared.run.Outcome.{Outcome}
 use Rattle.machine.proofs.Recording.{twelve, put-long, put-past, holds-put}
 use Rattle.machine.proofs.Real.{KnownOps, Stepping, refused, permitted, step-gives}
-
--- a course of the run, i codes being answered before it, is what the fold gives; rs is the table of records as lent
-pub record Folds (rs ans : List ℕ) (i : ℕ) (c : Course) (f : Folded) : Type 0 where
-  pub table : c .table ≡ f .at .table
-  pub control : c .ran .control ≡ f .at .control
-  pub events : c .ran .events ≡ length (f .at .events)
-  pub tried : c .ran .tried ≡ i + length (f .answers)
-  pub answers : c .answers ≡ sets ans i (f .answers)
-  pub long : length (c .records) ≡ length rs
-  pub records : Holds (c .records) (f .at .events)
-  pub past : (p : ℕ) → length (f .at .events) * 12 ≤ p → getD (c .records) p 0 ≡ getD rs p 0
-  pub few : length (f .at .events) ≤ 60000
 
 -- where a run stands between two codes: `now` is the table of records as it is by then
 pub record Going (rs now : List ℕ) (l : List ℕ) (s : Control) (hs : List Happening) : Type 0 where
@@ -92,14 +81,14 @@ module _ (g : Layout) (ops : KnownOps (g .actions)) (k : ℕ) (rs : List ℕ) wh
     -- the code stops the run, or is answered and the run goes on
     module _ (ans : List ℕ) (i : ℕ) (codes : List ℕ)
         (rest : (now l : List ℕ) (s : Control) (hs : List Happening) (ans : List ℕ) (i : ℕ) → Going rs now l s hs
-        → Folds rs ans i (stepsFrom codes i g k l ans now s (length hs)) (foldSteps inner (roomIn rs) (stand l s hs) codes)) where
+        → Folds rs ans i (stepsFrom codes i g k l ans now s (length hs)) (foldSteps inner (roomIn rs) (conf l s hs) codes)) where
       abbrev on : Left Outcome → List ℕ → Course
       on u answered = stepsFrom codes (i + 1) g k (u .table) answered (u .records) (u .out .control) (u .out .events)
 
-      abbrev down : Stand → Folded
+      abbrev down : LabelsConf → Folded
       down d = foldSteps inner (roomIn rs) d codes
 
-      stopped : (n : ℕ) → Folds rs ans i (course (ran s (length hs) (i + 1)) l (set ans i n) now) (folded (n ∷ []) (stand l s hs))
+      stopped : (n : ℕ) → Folds rs ans i (course (ran s (length hs) (i + 1)) l (set ans i n) now) (folded (n ∷ []) (conf l s hs))
       stopped n = record {
         table = refl;
         control = refl;
@@ -128,12 +117,12 @@ module _ (g : Layout) (ops : KnownOps (g .actions)) (k : ℕ) (rs : List ℕ) wh
 
       refused-by : (n : ℕ) (b : Bool) → eqb n 12 ≡ b
           → Folds rs ans i (pick b (course (ran s (length hs) (i + 1)) l (set ans i n) now) (on (left (outcome n s (length hs)) l now) (set ans i n)))
-          (pick b (folded (n ∷ []) (stand l s hs)) (folded (n ∷ down (stand l s hs) .answers) (down (stand l s hs) .at)))
+          (pick b (folded (n ∷ []) (conf l s hs)) (folded (n ∷ down (conf l s hs) .answers) (down (conf l s hs) .at)))
       refused-by n true e = stopped n
       refused-by n false e = fronted n (rest now l s hs (set ans i n) (i + 1) w)
 
       full : (h : Happening) (t : Control) (m : List ℕ) → Grown l (s .count) m (t .count)
-          → Folds rs ans i (course (ran s (length hs) (i + 1)) (cutTo m (s .count) (t .count)) (set ans i 12) now) (folded (12 ∷ []) (stand l s hs))
+          → Folds rs ans i (course (ran s (length hs) (i + 1)) (cutTo m (s .count) (t .count)) (set ans i 12) now) (folded (12 ∷ []) (conf l s hs))
       full h t m grown = rw (cut-back (w .small) (w .zeros) grown) (stopped 12)
 
       permitted-by : (h : Happening) (t : Control) (m : List ℕ) (b : Bool) → leb (roomIn rs) (length hs) ≡ b → Grown l (s .count) m (t .count)
@@ -144,7 +133,7 @@ module _ (g : Layout) (ops : KnownOps (g .actions)) (k : ℕ) (rs : List ℕ) wh
           (left (outcome 12 s (length hs)) (cutTo m (s .count) (t .count)) now)
           (left (outcome 0 t (oneMore (length hs))) m (recordPut now (length hs) (recordOf h))))
           ans i on)
-          (foldBy (pick b (record { number = 12; at = stand l s hs }) (record { number = 0; at = stand m t (hs ++ (h ∷ [])) })) down)
+          (foldBy (pick b (record { number = 12; at = conf l s hs }) (record { number = 0; at = conf m t (hs ++ (h ∷ [])) })) down)
       permitted-by h t m true e grown real below count = full h t m grown
       permitted-by h t m false e grown real below count =
           let n : length hs < 60000 = omega (arith, w .steps, below) in
@@ -152,14 +141,14 @@ module _ (g : Layout) (ops : KnownOps (g .actions)) (k : ℕ) (rs : List ℕ) wh
           fronted 0 (rw (counted hs h n) (rest then m t (hs ++ (h ∷ [])) (set ans i 0) (i + 1) (went h grown real below count e)))
 
       turned : {v : Held Stepped} → Stepping l s v
-          → Folds rs ans i (goBy (turnFrom v now s (length hs)) ans i on) (foldBy (afterStep (roomIn rs) (stand l s hs) v) down)
+          → Folds rs ans i (goBy (turnFrom v now s (length hs)) ans i on) (foldBy (afterStep (roomIn rs) (conf l s hs) v) down)
       unfolding turnOn permittedOn
       turned (refused {n}) = refused-by n (eqb n 12) refl
       turned (permitted {m} {h} {t} grown real below count) =
           rw (room-same now (w .long)) (permitted-by h t m (leb (roomIn rs) (length hs)) refl grown real below count)
 
   pub folds : (codes : List ℕ) (now l : List ℕ) (s : Control) (hs : List Happening) (ans : List ℕ) (i : ℕ) → Going rs now l s hs
-      → Folds rs ans i (stepsFrom codes i g k l ans now s (length hs)) (foldSteps inner (roomIn rs) (stand l s hs) codes)
+      → Folds rs ans i (stepsFrom codes i g k l ans now s (length hs)) (foldSteps inner (roomIn rs) (conf l s hs) codes)
   unfolding stepsFrom foldSteps oneTurn
   folds [] now l s hs ans i w = record {
     table = refl;
@@ -182,21 +171,21 @@ module _ (f h : List ℕ → Control → ℕ → Held Stepped) (P : List ℕ →
     → P (f l s code .table) (f l s code .out .control))
     (room : ℕ) where
   fold-by : (codes : List ℕ)
-      → ((l : List ℕ) (s : Control) (hs : List Happening) → P l s → foldSteps f room (stand l s hs) codes ≡ foldSteps h room (stand l s hs) codes)
+      → ((l : List ℕ) (s : Control) (hs : List Happening) → P l s → foldSteps f room (conf l s hs) codes ≡ foldSteps h room (conf l s hs) codes)
       → (l : List ℕ) (s : Control) (hs : List Happening) → P l s
       → (r : Reply) (m : List ℕ) (t : Control) → ((e : Happening) → r ≡ R.Permitted e → P m t)
-      → foldBy (replied r room (stand l s hs) m t) (λ d. foldSteps f room d codes) ≡ foldBy (replied r room (stand l s hs) m t) (λ d. foldSteps h room d codes)
-  fold-by codes ih l s hs p (R.Refused n) m t q = ap (λ (x : Folded). pick (eqb n 12) (folded (n ∷ []) (stand l s hs)) (withAnswer n x)) (ih l s hs p)
+      → foldBy (replied r room (conf l s hs) m t) (λ d. foldSteps f room d codes) ≡ foldBy (replied r room (conf l s hs) m t) (λ d. foldSteps h room d codes)
+  fold-by codes ih l s hs p (R.Refused n) m t q = ap (λ (x : Folded). pick (eqb n 12) (folded (n ∷ []) (conf l s hs)) (withAnswer n x)) (ih l s hs p)
   fold-by codes ih l s hs p (R.Permitted e) m t q = by (leb room (length hs)) (ih m t (hs ++ (e ∷ [])) (q e refl))
     where
-      by : (b : Bool) → foldSteps f room (stand m t (hs ++ (e ∷ []))) codes ≡ foldSteps h room (stand m t (hs ++ (e ∷ []))) codes
-          → foldBy (pick b (answered 12 (stand l s hs)) (answered 0 (stand m t (hs ++ (e ∷ []))))) (λ d. foldSteps f room d codes)
-          ≡ foldBy (pick b (answered 12 (stand l s hs)) (answered 0 (stand m t (hs ++ (e ∷ []))))) (λ d. foldSteps h room d codes)
+      by : (b : Bool) → foldSteps f room (conf m t (hs ++ (e ∷ []))) codes ≡ foldSteps h room (conf m t (hs ++ (e ∷ []))) codes
+          → foldBy (pick b (answered 12 (conf l s hs)) (answered 0 (conf m t (hs ++ (e ∷ []))))) (λ d. foldSteps f room d codes)
+          ≡ foldBy (pick b (answered 12 (conf l s hs)) (answered 0 (conf m t (hs ++ (e ∷ []))))) (λ d. foldSteps h room d codes)
       by true i = refl
       by false i = ap (λ (x : Folded). withAnswer 0 x) i
 
   pub fold-same : (codes : List ℕ) (l : List ℕ) (s : Control) (hs : List Happening) → P l s
-      → foldSteps f room (stand l s hs) codes ≡ foldSteps h room (stand l s hs) codes
+      → foldSteps f room (conf l s hs) codes ≡ foldSteps h room (conf l s hs) codes
   unfolding foldSteps
   fold-same [] l s hs p = refl
   fold-same (code ∷ codes) l s hs p =

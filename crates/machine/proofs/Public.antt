@@ -18,9 +18,8 @@ use Rattle.audit.proofs.Check.{test-model}
 use Rattle.machine.specs.Step.{isSound, innerStep, stepChecked}
 use Rattle.law.specs.Out.{refuse}
 use Rattle.law.specs.Rules.{stepR}
-use Rattle.law.specs.Meant.{meant, answer}
+use Rattle.law.specs.Meant.{Sized, meant, answer}
 use Rattle.law.specs.Turned.{turnedBy, stepReasons}
-use Rattle.law.proofs.Stands.{Sized}
 use Rattle.law.proofs.Law.{step-is-rules}
 use Rattle.law.proofs.Turned.{turned-same, step-turned}
 

@@ -11,7 +11,7 @@ use borrow.Author.Tests.{ltb-true, ltb-false, leb-false, eqb-true, eqb-false, lt
 use Rattle.terms.specs.Base.{pick, Held, held}
 use Rattle.terms.proofs.Back.{Grown, ZeroPast}
 use Rattle.model.specs.Fields.{inForm}
-use Rattle.model.specs.Records.{actionIn, actionAt, lengthAt}
+use Rattle.model.specs.Records.{actionIn, actionNumber, actionAt, lengthAt}
 use Rattle.model.specs.declared.records.Action.{Action}
 use Rattle.model.specs.declared.records.Model.{Model}
 use Rattle.state.specs.Slot.{slotAt}
@@ -21,9 +21,8 @@ use Rattle.state.specs.Moves.{frameMoved}
 use Rattle.state.specs.Launch.{frameLaunched}
 use Rattle.state.specs.Reset.{frameReset}
 use Rattle.state.specs.Hand.{frameHanded}
-use Rattle.state.specs.Early.{Sight, nextAction, notCode, reasons, earlyOf}
+use Rattle.state.specs.Early.{Sight, sightOf, nextAction, notCode, reasons, earlyOf}
 use Rattle.state.specs.Reason.{NoneHolds, next}
-use Rattle.state.specs.Seek.{sightOf}
 use Rattle.state.specs.declared.slot.Slot.{Slot}
 use Rattle.state.specs.declared.code.Way.{Way}
 use Rattle.state.specs.declared.code.Way.the-variants as W
@@ -41,7 +40,6 @@ use Rattle.rules.specs.declared.work.Worked.{Worked}
 use Rattle.rules.specs.declared.inner.Reply.the-variants as R
 use Rattle.rules.specs.declared.inner.Stepped.{Stepped}
 use Rattle.rules.proofs.Back as B
-use Rattle.audit.specs.Programs.{numberOf}
 use Rattle.audit.specs.Sound.{SoundModel}
 use Rattle.machine.specs.Recorded.{isReal, ShortPath}
 
@@ -155,11 +153,11 @@ module _ (m : Model) (sound : SoundModel m) where
   unfolding actionIn
   zero-op = omega arith
 
-  in-array : (p k : ℕ) → p * 16 + k < 512 → actionAt (m .actions) p k ≡ actionIn (numberOf (m .actions) p k)
-  unfolding actionAt numberOf
-  in-array p k h = rw (lt-ltb (p * 16 + k) 512 h)
+  in-array : (p k : ℕ) → p * 16 + k < 512 → actionAt (m .actions) p k ≡ actionIn (actionNumber (m .actions) p k)
+  unfolding actionAt
+  in-array p k h = refl
 
-  number-zero : (p k : ℕ) → p * 16 + k < 512 → numberOf (m .actions) p k ≡ 0 → actionAt (m .actions) p k .op < 21
+  number-zero : (p k : ℕ) → p * 16 + k < 512 → actionNumber (m .actions) p k ≡ 0 → actionAt (m .actions) p k .op < 21
   number-zero p k h e = rw (in-array p k h, e) zero-op
 
   place-op : (p k : ℕ) → p < 32 → k < 16 → actionAt (m .actions) p k .op < 21
@@ -174,11 +172,11 @@ module _ (m : Model) (sound : SoundModel m) where
       by false d t u = number-zero p k (omega arith) (sound .zeros .actions p k h (ltb-false k (lengthAt (m .lengths) p) t) g)
 
   same-place : (p k q j : ℕ) → q * 16 + j ≡ p * 16 + k → actionAt (m .actions) p k ≡ actionAt (m .actions) q j
-  unfolding actionAt
+  unfolding actionAt actionNumber
   same-place p k q j e = rw e
 
   past-array : (p k : ℕ) → 512 ≤ p * 16 + k → actionAt (m .actions) p k .op < 21
-  unfolding actionAt
+  unfolding actionAt actionNumber
   past-array p k h = rw (le-ltb (p * 16 + k) 512 h) zero-op
 
   pub known-ops : KnownOps (m .actions)

@@ -11,13 +11,12 @@ use lib.ListN.{length, set, replicate, length-replicate}
 use lib.Seq.{sets, length-take-le}
 use lib.Dec.{ltb}
 use borrow.Author.Tests.{ltb-true, ltb-false}
-use Rattle.terms.specs.Base.{pick}
+use Rattle.terms.specs.Base.{pick, filled}
 use Rattle.terms.specs.Sound.{Sound}
 use Rattle.terms.proofs.Meaning.{also-left, also-right}
 use Rattle.model.specs.declared.records.Claim.{Claim}
 use Rattle.model.specs.declared.records.Model.{Model}
 use Rattle.state.specs.declared.control.Control.{Control}
-use Rattle.rules.specs.Effect.{filled}
 use Rattle.rules.specs.Event.{roomIn}
 use Rattle.rules.specs.declared.event.Happening.{Happening}
 use Rattle.rules.specs.declared.inner.Reply.the-variants.{Permitted}
@@ -27,15 +26,16 @@ use Rattle.audit.specs.Sound.{SoundModel}
 use Rattle.audit.proofs.Check.{test-model}
 use Rattle.audit.proofs.Standing.{steps-right}
 use Rattle.law.specs.Rules.{layoutOf}
+use Rattle.law.specs.Machines.{conf}
 use Rattle.machine.specs.Claim.{firstBreak, acceptsAll}
 use Rattle.machine.specs.Judge.{firstBreakOn, acceptsOn}
 use Rattle.machine.specs.Recorded.{none, ShortPath}
 use Rattle.machine.specs.Step.{isSound, innerStep, stepChecked}
 use Rattle.machine.specs.Run.{ran, Course, course, shorter, triedOf, stepsOn, allRefused, runOn}
-use Rattle.machine.specs.Fold.{stand, Folded, folded, withAnswer, foldSteps}
+use Rattle.machine.specs.Fold.{Folded, folded, withAnswer, foldSteps, Folds}
 use Rattle.machine.proofs.Judged.{first-break-is, all-accepts-is}
 use Rattle.machine.proofs.Real.{known-ops}
-use Rattle.machine.proofs.Folds.{Folds, folds, fold-same}
+use Rattle.machine.proofs.Folds.{folds, fold-same}
 use Rattle.machine.proofs.Checked.{table-right, inner-agrees, unsound-refused}
 
 -- no more than 60,000 steps are made
@@ -46,7 +46,7 @@ steps-most m l s e = steps-right (s .frame) (also-left _ _ (also-right (tableSou
 module _ (m : Model) (l : List ℕ) (s : Control) (codes ans rs : List ℕ) where
   -- "run" is folding the step over the codes that are tried
   pub run-folds : length (m .lines) ≡ 512 → length l ≡ 512 → isSound m l s ≡ true
-      → Folds rs ans 0 (runOn l m s codes ans rs) (foldSteps (λ t c code. innerStep t m c code) (roomIn rs) (stand l s []) (triedOf codes ans))
+      → Folds rs ans 0 (runOn l m s codes ans rs) (foldSteps (λ t c code. innerStep t m c code) (roomIn rs) (conf l s []) (triedOf codes ans))
   unfolding runOn stepsOn
   run-folds h g e =
       let model : SoundModel m = test-model h (also-left (soundModel m) (soundControl m l s) e) in
@@ -81,8 +81,8 @@ module _ (m : Model) (l : List ℕ) (s : Control) (codes ans rs : List ℕ) wher
       → ((t : List ℕ) (c : Control) (code : ℕ) → P t c → (e : Happening) → innerStep t m c code .out .reply ≡ Permitted e
       → P (innerStep t m c code .table) (innerStep t m c code .out .control))
       → P l s
-      → foldSteps (λ t c code. innerStep t m c code) (roomIn rs) (stand l s []) (triedOf codes ans)
-      ≡ foldSteps (λ t c code. stepChecked t m c code) (roomIn rs) (stand l s []) (triedOf codes ans)
+      → foldSteps (λ t c code. innerStep t m c code) (roomIn rs) (conf l s []) (triedOf codes ans)
+      ≡ foldSteps (λ t c code. stepChecked t m c code) (roomIn rs) (conf l s []) (triedOf codes ans)
   folds-checked P sound kept p =
       fold-same (λ t c code. innerStep t m c code) (λ t c code. stepChecked t m c code) P
       (λ t c code q. sym (inner-agrees t m c code (sound t c q))) kept (roomIn rs) (triedOf codes ans) l s [] p
@@ -103,14 +103,14 @@ shorter-both m n = by (ltb m n) refl
 
 module _ (m : Model) (l : List ℕ) (s : Control) (room : ℕ) (e : isSound m l s ≡ false) where
   all-eleven : (codes : List ℕ) (hs : List Happening)
-      → foldSteps (λ t c code. stepChecked t m c code) room (stand l s hs) codes ≡ folded (replicate (length codes) 11) (stand l s hs)
+      → foldSteps (λ t c code. stepChecked t m c code) room (conf l s hs) codes ≡ folded (replicate (length codes) 11) (conf l s hs)
   unfolding foldSteps
   all-eleven [] hs = refl
   all-eleven (code ∷ codes) hs = rw (unsound-refused l m s code e) (ap (λ (x : Folded). withAnswer 11 x) (all-eleven codes hs))
 
 module _ (m : Model) (l : List ℕ) (s : Control) (codes ans rs : List ℕ) where
   refused-folds : isSound m l s ≡ false
-      → Folds rs ans 0 (runOn l m s codes ans rs) (foldSteps (λ t c code. stepChecked t m c code) (roomIn rs) (stand l s []) (triedOf codes ans))
+      → Folds rs ans 0 (runOn l m s codes ans rs) (foldSteps (λ t c code. stepChecked t m c code) (roomIn rs) (conf l s []) (triedOf codes ans))
   refused-folds e =
       let n : ℕ = shorter (length codes) (length ans) in
       let k : length (triedOf codes ans) ≡ n = length-take-le n codes (shorter-both (length codes) (length ans) .0) in
@@ -133,11 +133,11 @@ module _ (m : Model) (l : List ℕ) (s : Control) (codes ans rs : List ℕ) wher
       → ((t : List ℕ) (c : Control) (code : ℕ) → P t c → (e : Happening) → innerStep t m c code .out .reply ≡ Permitted e
       → P (innerStep t m c code .table) (innerStep t m c code .out .control))
       → (isSound m l s ≡ true → P l s)
-      → Folds rs ans 0 (runOn l m s codes ans rs) (foldSteps (λ t c code. stepChecked t m c code) (roomIn rs) (stand l s []) (triedOf codes ans))
+      → Folds rs ans 0 (runOn l m s codes ans rs) (foldSteps (λ t c code. stepChecked t m c code) (roomIn rs) (conf l s []) (triedOf codes ans))
   run-checked h g P sound kept fits = by (isSound m l s) refl
     where
       by : (b : Bool) → isSound m l s ≡ b
-          → Folds rs ans 0 (runOn l m s codes ans rs) (foldSteps (λ t c code. stepChecked t m c code) (roomIn rs) (stand l s []) (triedOf codes ans))
+          → Folds rs ans 0 (runOn l m s codes ans rs) (foldSteps (λ t c code. stepChecked t m c code) (roomIn rs) (conf l s []) (triedOf codes ans))
       by true e =
           subst (λ (f : Folded). Folds rs ans 0 (runOn l m s codes ans rs) f) (folds-checked m l s codes ans rs P sound kept (fits e))
           (run-folds m l s codes ans rs h g e)

@@ -1,6 +1,6 @@
 -- The claim judged over the records of a run, twelve numbers each: number 0 of a record is its op, 1 the mover's serial, 6
--- the program of a jump, 7 the machine, 8 the new thread, 9 the number of endings, 10 and 11 their programs. That this is
--- the claim over the events is proved.
+-- the program of a jump, 7 the machine, 8 the new thread of a launch or reset, or the receiver of a hand-over, 9 the number
+-- of endings, 10 and 11 their programs. That this is the claim over the events is proved.
 use Prim.Native.Nat.{ℕ, zero, suc, _+_, _%_}
 use mathlib.Core.Bool.{Bool, true, false, not}
 use mathlib.Core.List.{List}

@@ -5,12 +5,11 @@ use mathlib.Core.List.{List, [], _∷_}
 use mathlib.Core.Path.{_≡_}
 use lib.ListN.{length, take, set}
 use lib.Dec.{eqb, ltb, leb}
-use Rattle.terms.specs.Base.{pick, Held, held}
+use Rattle.terms.specs.Base.{pick, filled, Held, held}
 use Rattle.terms.specs.Table.{cutTo}
 use Rattle.model.specs.declared.records.Model.{Model}
 use Rattle.state.specs.Control.{oneMore}
 use Rattle.state.specs.declared.control.Control.{Control}
-use Rattle.rules.specs.Effect.{filled}
 use Rattle.rules.specs.Event.{recordOf, roomIn, recordPut}
 use Rattle.rules.specs.Made.{Layout}
 use Rattle.rules.specs.Step.{stepOn}

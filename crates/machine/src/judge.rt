@@ -63,6 +63,9 @@ fn path_at(c: Claim, at: u8) -> u8
     ensures { λ r. ⌜ r ≡ pathAt c at ⌝ }
 {
     let path = c.path;
-    let i = at as usize;
-    if i < 4 { path[i] } else { 0 }
+    if at < Claim::PATH {
+        path[at as usize]
+    } else {
+        0
+    }
 }

@@ -16,7 +16,8 @@ use terms::table::cut;
 ghost use mathlib.Core.Path.{_≡_};
 ghost use Rattle.terms.specs.Base.{held};
 ghost use Rattle.rules.specs.Made.{layout};
-ghost use Rattle.machine.specs.Run.{left, course, ran, Shorter, permittedOn, turnOn, oneTurn, allRefused, stepsOn, runOn};
+ghost use Rattle.machine.specs.Run.{outcome, left, course, ran, Shorter};
+ghost use Rattle.machine.specs.Run.{permittedOn, turnOn, oneTurn, allRefused, stepsOn, runOn};
 
 // The configuration after the run, the events recorded, and the codes tried.
 pub struct Ran {
@@ -98,32 +99,40 @@ fn steps<'a>(
     ensures { λ r. ⌜ course r (now (t .exit)) (now (answers .exit)) (now (records .exit)) ≡ stepsOn (layout (now (actions .entry)) (now (lengths .entry)) (now (machines .entry)) (now (locations .entry))) «machine_count» (now (t .entry)) s (now (codes .entry)) (now (answers .entry)) (now (records .entry)) ⌝ }
 {
     let n = shorter(codes.len(), answers.len());
-    let mut control = s;
-    let mut events = 0;
+    let mut u = at_first(s);
     let mut i = 0;
     while i < n {
         let code = codes[i];
-        let u = one_turn(
+        u = one_turn(
             t,
             records,
-            control,
+            u.control,
             actions,
             lengths,
             machines,
             machine_count,
             locations,
-            events,
+            u.events,
             code,
         );
         answers[i] = u.number;
-        control = u.control;
-        events = u.events;
         i += 1;
         if u.number == 12 {
-            return after_run(control, events, i);
+            return after_run(u.control, u.events, i);
         }
     }
-    after_run(control, events, n)
+    after_run(u.control, u.events, n)
+}
+
+// Before the first code: nothing is refused or recorded yet.
+fn at_first(control: Control) -> Outcome
+    ensures { λ u. ⌜ u ≡ outcome 0 control 0 ⌝ }
+{
+    Outcome {
+        number: 0,
+        control,
+        events: 0,
+    }
 }
 
 // One code is tried.

@@ -22,6 +22,17 @@ locOf op =
     (pick (eqb op 14) Function
     Unused)))))
 
+-- where the loc field is a location's number
+abbrev pub namesBy : Loc → Bool
+namesBy Any = true
+namesBy Memory = true
+namesBy Register = true
+namesBy Function = false
+namesBy Unused = false
+
+unfoldable pub namesLocation : ℕ → Bool
+namesLocation op = namesBy (locOf op)
+
 -- 1 write, 2 extend, 5 send, 19 jump, 7 to 17
 unfoldable pub usesX : ℕ → Bool
 usesX op = either (eqb op 1) (either (eqb op 2) (either (eqb op 5) (either (eqb op 19) (pick (ltb op 7) false (ltb op 18)))))

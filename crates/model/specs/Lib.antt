@@ -1,4 +1,5 @@
--- What the contracts of this crate cite, beside document 01, section 'Programs, machines, threads'.
+-- What the contracts of this crate cite, beside document 01, section 'Programs, machines, threads'. First is cited by
+-- contracts of the crates above alone.
 pub mod Records
 pub mod Fields
 pub mod First

@@ -48,8 +48,11 @@ unfoldable pub threadIn : ℕ → Listed
 threadIn n = listed (n / 65536 % 65536) (n / 256 % 256) (n % 256)
 
 -- action k of program p stands at 16 p + k
+unfoldable pub actionNumber : List ℕ → ℕ → ℕ → ℕ
+actionNumber l p k = pick (ltb (p * 16 + k) 512) (getD l (p * 16 + k) 0) 0
+
 unfoldable pub actionAt : List ℕ → ℕ → ℕ → Action
-actionAt l p k = pick (ltb (p * 16 + k) 512) (actionIn (getD l (p * 16 + k) 0)) (actionIn 0)
+actionAt l p k = actionIn (actionNumber l p k)
 
 -- how many actions program p has
 unfoldable pub lengthAt : List ℕ → ℕ → ℕ

@@ -2,7 +2,7 @@
 use crate::records::Action;
 use terms::term::Term;
 ghost use mathlib.Core.Path.{_≡_};
-ghost use Rattle.model.specs.Fields.{locOf, usesX, usesY, closing, unusedZero, inForm, locInForm, isMemory, isRegister, kindFits};
+ghost use Rattle.model.specs.Fields.{locOf, namesLocation, usesX, usesY, closing, unusedZero, inForm, locInForm, isMemory, isRegister, kindFits};
 
 // What an op's loc field is.
 pub enum Loc {
@@ -29,6 +29,14 @@ pub fn loc_of(op: u8) -> Loc
         14 => Loc::Function,
         _ => Loc::Unused,
     }
+}
+
+// The loc field is a location's number: read, write, extend, lock, unlock. One test, since every step asks it; that
+// loc_of says the same of each op is proved.
+pub fn names_location(op: u8) -> bool
+    ensures { λ r. ⌜ r ≡ namesLocation op ⌝ }
+{
+    op < 5
 }
 
 // Write, extend, send, jump, and the ops from sign to match.

@@ -1,8 +1,8 @@
 // A model: programs, machines, locations, listed threads, the claim, and the terms that it lists. Every limit is a
 // constant of the record that it bounds.
+use terms::line::bit;
 ghost use mathlib.Core.Path.{_≡_};
-ghost use Rattle.terms.specs.Line.{Bit};
-ghost use Rattle.model.specs.Records.{packAction, actionIn, packMachine, machineIn, packLocation, locationIn, packThread, threadIn, actionAt, lengthAt, machineAt, locationAt, threadAt};
+ghost use Rattle.model.specs.Records.{packAction, actionIn, packMachine, machineIn, packLocation, locationIn, packThread, threadIn, actionNumber, actionAt, lengthAt, machineAt, locationAt, threadAt};
 
 // A whole model. The two large arrays are lent to the inner functions; the records are packed numbers, so that they
 // can be lent too, and are read by action_at, machine_at, location_at and thread_at.
@@ -115,19 +115,12 @@ pub fn action_in(n: u64) -> Action
     }
 }
 
-// 1 for true.
-pub fn flag(b: bool) -> u32
-    ensures { λ r. ⌜ Bit b r ⌝ }
-{
-    if b { 1 } else { 0 }
-}
-
 pub fn pack_machine(m: Machine) -> u32
     ensures { λ r. ⌜ r ≡ packMachine m ⌝ }
 {
     let boot = m.boot as u32;
     let launch = m.launch as u32;
-    let protected = flag(m.protected);
+    let protected = bit(m.protected) as u32;
     boot * 65536 + launch * 256 + protected
 }
 
@@ -179,16 +172,19 @@ pub fn thread_in(n: u32) -> Listed
     }
 }
 
+// The number of an action, 0 where there is none.
+pub fn action_number(actions: &[u64; 512], program: u8, position: u8) -> u64
+    ensures { λ r. ⌜ r ≡ actionNumber (now (actions .entry)) program position ⌝ }
+{
+    let i = program as usize * 16 + position as usize;
+    if i < 512 { actions[i] } else { 0 }
+}
+
 // The record at a place, and the one of all zeros where there is none.
 pub fn action_at(actions: &[u64; 512], program: u8, position: u8) -> Action
     ensures { λ r. ⌜ r ≡ actionAt (now (actions .entry)) program position ⌝ }
 {
-    let i = program as usize * 16 + position as usize;
-    if i < 512 {
-        action_in(actions[i])
-    } else {
-        action_in(0)
-    }
+    action_in(action_number(actions, program, position))
 }
 
 pub fn length_at(lengths: &[u8; 32], program: u8) -> u8

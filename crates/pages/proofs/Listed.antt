@@ -27,10 +27,11 @@ use Rattle.search.proofs.Codes.{labels-coded}
 use Rattle.search.proofs.Joined.{bound-parts}
 use Rattle.search.proofs.Searched.{tidied-ok}
 use Rattle.search.proofs.Promises.{start-good}
-use Rattle.search.proofs.Listings.{place-is, listing-shows, next-good, words-short, whole-here, whole-on}
+use Rattle.search.proofs.Listings.{place-is, listing-shows, next-good, words-short, full-spends, whole-here, whole-on}
 use Rattle.pages.specs.ListPage.{goesOn}
 use Rattle.pages.specs.Listing.{listPrinted, Whole, whole, wholeThen, wholeText}
 use Rattle.pages.proofs.Printed.{Short}
+use Rattle.pages.proofs.Spends.{found-goes}
 use Rattle.pages.proofs.Pages.{Next, listing-printed}
 
 -- a listing as the program prints it
@@ -80,7 +81,7 @@ module _ (m : Model) (arrays : Arrays m) (sound : soundModel m ≡ true) (n : �
   abbrev all : Place → ℕ → Whole
   all p b = shown (listAll (labels m) n b (tidied p))
 
-  module _ (p : Place) (b : ℕ) (room : List ℕ) (g : Good p b) where
+  module _ (p : Place) (b : ℕ) (room : List ℕ) (g : Good p b) (some : 25 ≤ length room) where
     abbrev l : Listed Spot
     l = listIn (labels m) n (roomFor room) b (tidied p)
 
@@ -110,6 +111,7 @@ module _ (m : Model) (arrays : Arrays m) (sound : soundModel m ≡ true) (n : �
       few = room-takes room (length (l .words)) few;
       short = short-all n (l .words) (bound-parts n bound .1) (words-short m arrays sound n bound p b room (g .0) (g .1));
       spent = omega (arith, passed .tries, passed .within);
+      falls = λ e. full-spends m arrays sound n bound p b room (g .0) (g .1) some (found-goes (kindOf (l .close)) e) .0;
       sized = omega (arith, passed .sizes, passed .tries, sized-few (passed .past));
       good = λ e.
           let h = subst (GoodPlace m n) (place-is m arrays sound n bound p b room (g .0) (g .1)) (next-good m arrays sound n bound p b room (g .0) (g .1)) in
@@ -122,4 +124,4 @@ module _ (m : Model) (arrays : Arrays m) (sound : soundModel m ≡ true) (n : �
   pub list-prints : (budget : ℕ) (room page : List ℕ) → GoodBudget budget → 25 ≤ length room → length room / 25 * 279 + 30 ≤ length page
       → listPrinted m n budget room page ≡ wholeText (shown (listAll (labels m) n budget (tidied startPlace)))
   list-prints budget room page can some enough =
-      listing-printed m n budget Good all (λ p b r g h. next p b r g) room page (start-good m arrays sound n bound, can) can some enough
+      listing-printed m n budget Good all (λ p b r g h. next p b r g h) room page (start-good m arrays sound n bound, can) can some enough

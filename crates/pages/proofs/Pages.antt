@@ -26,7 +26,6 @@ use Rattle.pages.specs.Listing.{pagesThen, pagesFrom, listPrinted, Whole
 use Rattle.pages.specs.declared.lister.Stand.{Stand}
 use Rattle.pages.proofs.Printed.{Short, page-shows, words-long}
 use Rattle.pages.proofs.Fits.{text-whole, lines-long, last-long}
-use Rattle.pages.proofs.Spends.{page-falls}
 
 -- what a call of listing from place p with budget b gives: schedules put in the room, no more than it takes, and either the
 -- whole listing that was ahead, or a full room and a place from which the rest of it is ahead
@@ -40,6 +39,7 @@ pub record Next (m : Model) (n : ℕ) (Good : Place → ℕ → Type 0) (all : P
   pub few : length words * 25 ≤ length room
   pub short : Short words
   pub spent : tries ≤ b
+  pub falls : goesOn kind ≡ true → 0 < tries
   pub sized : sizes ≤ tries
   pub good : goesOn kind ≡ true → Good place (b - tries)
   pub on : goesOn kind ≡ true → all p b ≡ wholeThen words tries sizes (all place (b - tries))
@@ -142,10 +142,7 @@ module _ (m : Model) (n budget : ℕ) (Good : Place → ℕ → Type 0) (all : P
         }
 
     on-less : goesOn (g .kind) ≡ true → done .out .left < s .left
-    on-less e =
-        let going : pageOn m n budget s room page .out .going ≡ true = ap (λ (q : Paged). q .out .going) page-is ∙ e in
-        let left : pageOn m n budget s room page .out .left ≡ s .left - g .tries = ap (λ (q : Paged). q .out .left) page-is in
-        omega (arith, left, page-falls m n budget s room page (f .some) going)
+    on-less e = omega (arith, g .spent, g .falls e)
 
   pages-from : (k : ℕ) (s : Stand) (room page : List ℕ) → Fine s room page → s .left < k
       → pagesFrom k m n budget s room page ≡ textFrom budget s (all (s .place) (s .left))

@@ -8,8 +8,8 @@ use model::records::Model;
 use search::answer::Kind;
 use search::place::Place;
 use search::search::listing;
+use search::turn::less;
 ghost use mathlib.Core.Path.{_≡_};
-ghost use Prim.Native.Nat.{_-_};
 ghost use Rattle.lines.specs.Put.{written, putAll};
 ghost use Rattle.pages.specs.ListPage.{standStart, sumOf, goesOn, lastText, paged, pageOn};
 
@@ -91,12 +91,6 @@ fn put_last(page: &mut [u8], at: usize, kind: Kind, tries: u32, sized: u32) -> u
         Kind::End => put_closing(page, at, Word::End, tries, sized),
         Kind::Refused(number) => put_refused(page, at, number, 0),
     }
-}
-
-fn less(m: u32, n: u32) -> u32
-    ensures { λ r. ⌜ r ≡ m - n ⌝ }
-{
-    if n < m { m - n } else { 0 }
 }
 
 // Both are tries of one budget, so their sum is below the end of the type.

@@ -4,6 +4,7 @@ use lines::put::Word;
 use lines::put::put_end;
 use lines::put::put_field;
 use lines::put::put_word;
+use search::answer::Listing;
 ghost use mathlib.Core.Path.{_≡_};
 ghost use Prim.Native.Nat.{_+_, _*_};
 ghost use Rattle.lines.specs.Base.{byteAt};
@@ -17,7 +18,7 @@ pub fn put_schedules(page: &mut [u8], room: &[u8], found: u32) -> usize
     let mut at = 0;
     let mut i = 0;
     while i < found {
-        let from = i as usize * 25;
+        let from = i as usize * Listing::WIDTH;
         at = put_schedule(page, at, room, from);
         i += 1;
     }

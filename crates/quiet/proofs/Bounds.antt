@@ -9,7 +9,7 @@ use borrow.Author.Tests.{ltb-true, ltb-false}
 use Rattle.terms.specs.Line.{lineAt, depthIn, depthAt}
 use Rattle.terms.proofs.Back.{Grown}
 use Rattle.model.specs.declared.records.Model.{Model}
-use Rattle.quiet.specs.Quiet.{deepest, listedOf}
+use Rattle.quiet.specs.Quiet.{deepest, outlineOf}
 use Rattle.quiet.proofs.Deepest.{deepest-before, deepest-bounds}
 
 -- d bounds the depths of the lines below c
@@ -32,6 +32,6 @@ pub deeper-grown : {l : List ℕ} {c : ℕ} {k : List ℕ} {e : ℕ} (d : ℕ) �
 deeper-grown {l} {c} {k} {e} d room g most = deeper-bounds l k d c e (g .fits room) (g .below) most
 
 -- the listed terms, from which a search starts
-pub listed-bounds : (m : Model) → m .count ≤ 512 → Bounds (listedOf m .deep) (m .lines) (m .count)
-unfolding listedOf
+pub listed-bounds : (m : Model) → m .count ≤ 512 → Bounds (outlineOf m .deep) (m .lines) (m .count)
+unfolding outlineOf
 listed-bounds m room = deeper-bounds (m .lines) (m .lines) 0 0 (m .count) room (λ i h. refl) (λ i h. absurd (omega arith))

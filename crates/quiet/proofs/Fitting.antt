@@ -39,7 +39,7 @@ use Rattle.law.specs.Like.{Like, Fine}
 use Rattle.law.proofs.Fine.{sound-fine}
 use Rattle.law.proofs.Stands.{sound-like}
 use Rattle.machine.specs.Judge.{anyFrom}
-use Rattle.quiet.specs.Quiet.{actionFits, failsAt, allFit, actionNear, farAt, allNear, shallow, listedOf}
+use Rattle.quiet.specs.Quiet.{actionFits, failsAt, allFit, actionNear, farAt, allNear, shallow, outlineOf}
 use Rattle.quiet.proofs.Room.{Inside, whole-inside}
 use Rattle.quiet.proofs.Bounds.{Bounds, listed-bounds}
 use Rattle.quiet.proofs.Yields.{subst-deep}
@@ -169,15 +169,15 @@ module _ {m : Model} (M : SoundModel m) (A : Arrays m) {l : List ℕ} {s : Contr
     }
 
     -- where the deepest listed term leaves room for d, all do
-    listed-near : shallow d (listedOf m) ≡ true → (label : ℕ) → label < m .count → depthAt l label + d ≤ 16
+    listed-near : shallow d (outlineOf m) ≡ true → (label : ℕ) → label < m .count → depthAt l label + d ≤ 16
     unfolding shallow
     listed-near fits label h =
         let a = den-depth sound (C .terms .long) (label-den label h) in
         let b = depth-right (M .table) (A .lines) label h in
-        let c = leb-true (d + listedOf m .deep) 16 fits in
+        let c = leb-true (d + outlineOf m .deep) 16 fits in
         omega (arith, a, b, c, listed-bounds m (M .table .room) label h)
 
-    fits-shallow-in : shallow d (listedOf m) ≡ true → Fitting m l s
+    fits-shallow-in : shallow d (outlineOf m) ≡ true → Fitting m l s
     fits-shallow-in fits = near-fits (λ i live. record {
       first = listed-near fits (nextAt m s i .x) (first-low (slotAt (s .frame .slots) i));
       second = listed-near fits (nextAt m s i .y) (second-low (slotAt (s .frame .slots) i));
@@ -227,7 +227,7 @@ module _ {m : Model} (M : SoundModel m) (A : Arrays m) {l : List ℕ} {s : Contr
     }
 
 pub fits-shallow : {m : Model} → SoundModel m → Arrays m → {l : List ℕ} {s : Control} → SoundConfig m l s
-    → (d : ℕ) → shallow d (listedOf m) ≡ true → Bounds d l (s .count) → Fitting m l s
+    → (d : ℕ) → shallow d (outlineOf m) ≡ true → Bounds d l (s .count) → Fitting m l s
 fits-shallow M A C d fits most = fits-shallow-in M A C d most fits
 
 pub fits-near : {m : Model} → SoundModel m → Arrays m → {l : List ℕ} {s : Control} → SoundConfig m l s

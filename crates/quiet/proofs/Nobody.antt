@@ -13,8 +13,7 @@ use Rattle.terms.proofs.Check.{unless-pass}
 use Rattle.model.specs.declared.records.Claim.{Claim}
 use Rattle.model.specs.declared.records.Model.{Model}
 use Rattle.state.specs.Slot.{slotIn, slotAt}
-use Rattle.state.specs.Early.{nextAction, Sight, refusalOf}
-use Rattle.state.specs.Seek.{sightOf}
+use Rattle.state.specs.Early.{nextAction, Sight, sightOf, refusalOf}
 use Rattle.state.specs.Moves.{isLast}
 use Rattle.state.specs.Ended.{endedOne, endedBoth}
 use Rattle.state.specs.Code.{wayOf}
@@ -32,7 +31,7 @@ use Rattle.rules.specs.declared.event.Event.{Event}
 use Rattle.rules.specs.declared.event.Happening.{Happening}
 use Rattle.rules.specs.declared.work.Labels.{Labels}
 use Rattle.machine.specs.Claim.{endedIn, acceptsOf, breaksClaim}
-use Rattle.quiet.specs.Quiet.{standsIn, nobodyStands, calm, listedOf}
+use Rattle.quiet.specs.Quiet.{standsIn, nobodyStands, calm, outlineOf}
 use Rattle.quiet.proofs.Fitting.{none-at}
 
 -- the two halves of the test
@@ -40,8 +39,8 @@ pub record Calm (m : Model) (slots : List ℕ) (count : ℕ) : Type 0 where
   pub room : count + m .count ≤ 511
   pub nobody : nobodyStands slots (m .lengths) (m .claim .program) ≡ true
 
-pub is-calm : (m : Model) (slots : List ℕ) (count : ℕ) → calm slots (m .lengths) count (listedOf m) ≡ true → Calm m slots count
-unfolding calm listedOf
+pub is-calm : (m : Model) (slots : List ℕ) (count : ℕ) → calm slots (m .lengths) count (outlineOf m) ≡ true → Calm m slots count
+unfolding calm outlineOf
 is-calm m slots count e =
     let c = unless-pass (ltb 511 (count + m .count)) (nobodyStands slots (m .lengths) (m .claim .program)) e in
     record { room = ltb-false 511 (count + m .count) (c .0); nobody = c .1 }

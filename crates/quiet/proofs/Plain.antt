@@ -9,8 +9,7 @@ use borrow.Author.Tests.{eqb-true, eq-eqb}
 use Rattle.terms.specs.Base.{pick, held}
 use Rattle.model.specs.declared.records.Model.{Model}
 use Rattle.state.specs.Code.{wayOf}
-use Rattle.state.specs.Early.{Sight, earlyOf}
-use Rattle.state.specs.Seek.{sightOf}
+use Rattle.state.specs.Early.{Sight, sightOf, earlyOf}
 use Rattle.state.specs.declared.control.Control.{Control}
 use Rattle.state.proofs.Turned.{early-way}
 use Rattle.rules.specs.Work.{workOn}
@@ -27,7 +26,7 @@ use Rattle.law.specs.Rules.{layoutOf}
 use Rattle.law.specs.Machines.{LabelsConf, refusedAs, triedLabels}
 use Rattle.law.specs.Turned.{turnedBy}
 use Rattle.machine.specs.Claim.{breaksClaim}
-use Rattle.quiet.specs.Quiet.{calm, listedOf}
+use Rattle.quiet.specs.Quiet.{calm, outlineOf}
 use Rattle.quiet.proofs.Fitting.{Fitting}
 use Rattle.quiet.proofs.Nobody.{Calm, is-calm, none-accepts, not-broken}
 use Rattle.quiet.proofs.Sizes.{isSize, early-no-size, late-no-size}
@@ -67,6 +66,6 @@ module _ {m : Model} (M : SoundModel m) (A : Arrays m) {l : List ℕ} {s : Contr
 
 -- all codes of a calm configuration whose operands fit
 pub plain-ahead : {m : Model} → SoundModel m → Arrays m → {l : List ℕ} {s : Control} → SoundConfig m l s
-    → calm (s .frame .slots) (m .lengths) (s .count) (listedOf m) ≡ true → Fitting m l s → (hs : List Happening) (k : ℕ)
+    → calm (s .frame .slots) (m .lengths) (s .count) (outlineOf m) ≡ true → Fitting m l s → (hs : List Happening) (k : ℕ)
     → markOf (triedLabels (λ es h. breaksClaim (m .claim) es h) hs (stepOn l s (layoutOf m) (m .«machine_count») k)) ≡ plain
 plain-ahead {m} M A {s = s} C e fit hs k = plain-step M A C (is-calm m (s .frame .slots) (s .count) e) fit hs k

@@ -22,8 +22,7 @@ use Rattle.state.specs.Reason.{Reason, firstOf, NoneHolds, done, next}
 use Rattle.state.specs.Slot.{slotAt}
 use Rattle.state.specs.Code.{wayOf}
 use Rattle.state.specs.Control.{valueAt}
-use Rattle.state.specs.Early.{Sight, refusalOf, earlyOf}
-use Rattle.state.specs.Seek.{sightOf}
+use Rattle.state.specs.Early.{Sight, sightOf, refusalOf, earlyOf}
 use Rattle.state.specs.declared.code.Way.{Way}
 use Rattle.state.specs.declared.code.Way.the-variants as W
 use Rattle.state.specs.declared.control.Control.{Control}
@@ -36,9 +35,8 @@ use Rattle.audit.proofs.Whole.{control-test}
 use Rattle.law.specs.Out.{Out}
 use Rattle.law.specs.Act.{result}
 use Rattle.law.specs.Rules.{operand, layoutOf}
-use Rattle.law.specs.Meant.{meant}
+use Rattle.law.specs.Meant.{Sized, meant}
 use Rattle.law.specs.Turned.{turnedBy, unfit, yielded, termReasons, actReasons, workReasons, stepReasons}
-use Rattle.law.proofs.Stands.{Sized}
 use Rattle.law.proofs.Turned.{step-turned, turned-same}
 use Rattle.quiet.proofs.Room.{inside-more, enter-inside, both-enter}
 use Rattle.quiet.proofs.Yields.{Small, result-small}

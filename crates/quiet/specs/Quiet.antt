@@ -6,9 +6,8 @@ use mathlib.Core.Bool.{Bool, true, false, not}
 use mathlib.Core.List.{List}
 use lib.ListN.{getD}
 use lib.Dec.{eqb, ltb, leb}
-use Rattle.terms.specs.Base.{pick, also}
+use Rattle.terms.specs.Base.{pick, also, largerOf}
 use Rattle.terms.specs.Line.{depthAt}
-use Rattle.terms.specs.Grade.{deeperOf}
 use Rattle.terms.specs.Table.{usedOf}
 use Rattle.terms.specs.Subst.{fitsWithin}
 use Rattle.model.specs.declared.records.Action.{Action}
@@ -18,7 +17,7 @@ use Rattle.state.specs.Control.{valueAt}
 use Rattle.state.specs.Early.{nextAction}
 use Rattle.state.specs.Moves.{isLast}
 use Rattle.machine.specs.Judge.{anyFrom}
-use Rattle.quiet.specs.declared.quiet.Listed.{Listed}
+use Rattle.quiet.specs.declared.quiet.Outline.{Outline}
 
 -- a live thread that stands before the last action of program v
 unfoldable pub standsIn : List ℕ → ℕ → ℕ → Bool
@@ -33,7 +32,7 @@ nobodyStands slots lengths v = not (anyFrom 12 0 (λ i. standsIn lengths v (getD
 -- the deepest of n terms from label i on, or d
 unfoldable pub deepestIn : ℕ → List ℕ → ℕ → ℕ → ℕ
 deepestIn zero l i d = d
-deepestIn (suc n) l i d = deepestIn n l (i + 1) (deeperOf d (depthAt l i))
+deepestIn (suc n) l i d = deepestIn n l (i + 1) (largerOf d (depthAt l i))
 
 -- the deepest of the terms from a label up to a count, or d
 unfoldable pub deepest : List ℕ → ℕ → ℕ → ℕ → ℕ
@@ -70,13 +69,13 @@ unfoldable pub allNear : List ℕ → List ℕ → List ℕ → ℕ → Bool
 allNear l slots actions deep = not (anyFrom 12 0 (λ i. farAt l slots actions deep i))
 
 -- nobody stands before the last action of the claim's program, and there is room for as many terms more as are listed, and a result
-unfoldable pub calm : List ℕ → List ℕ → ℕ → Listed → Bool
+unfoldable pub calm : List ℕ → List ℕ → ℕ → Outline → Bool
 calm slots lengths count g = pick (ltb 511 (count + g .count)) false (nobodyStands slots lengths (g .program))
 
 -- the deepest term put for every variable of the deepest listed one
-unfoldable pub shallow : ℕ → Listed → Bool
+unfoldable pub shallow : ℕ → Outline → Bool
 shallow deep g = leb (deep + g .deep) 16
 
--- what is known of a model
-unfoldable pub listedOf : Model → Listed
-listedOf m = record { program = m .claim .program; count = m .count; deep = deepest (m .lines) 0 0 (m .count) }
+-- the outline of a model
+unfoldable pub outlineOf : Model → Outline
+outlineOf m = record { program = m .claim .program; count = m .count; deep = deepest (m .lines) 0 0 (m .count) }

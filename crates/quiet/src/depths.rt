@@ -3,10 +3,11 @@ use model::records::Action;
 use state::control::value_at;
 use state::early::next_action;
 use state::slot::slot_at;
-use terms::grade::deeper;
 use terms::line::depth_at;
 use terms::subst::fits_within;
 use terms::table::used;
+use terms::term::Term;
+use terms::term::larger;
 ghost use mathlib.Core.Path.{_≡_};
 ghost use Rattle.quiet.specs.Quiet.{deepest, actionNear, farAt, allNear, actionFits, failsAt, allFit};
 
@@ -18,7 +19,7 @@ pub fn deepest(t: &[u64; 512], before: u8, from: u16, count: u16) -> u8
     let mut deep = before;
     let mut i = from;
     while i < end {
-        deep = deeper(deep, depth_at(t, i));
+        deep = larger(deep, depth_at(t, i));
         i += 1;
     }
     deep
@@ -66,10 +67,10 @@ fn action_near(t: &[u64; 512], deep: u8, a: Action) -> bool
     ensures { λ r. ⌜ r ≡ actionNear (now (t .entry)) deep a ⌝ }
 {
     let room = deep as u16;
-    if 16 < depth_at(t, a.x) as u16 + room {
+    if Term::DEPTH < depth_at(t, a.x) as u16 + room {
         return false;
     }
-    depth_at(t, a.y) as u16 + room <= 16
+    depth_at(t, a.y) as u16 + room <= Term::DEPTH
 }
 
 // The next actions of all live threads have operands of depth 15 at most.

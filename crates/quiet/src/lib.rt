@@ -4,7 +4,7 @@
 //
 //   ends     nobody stands before the last action of the claim's program
 //   depths   how deep terms are, and operands can become
-//   quiet    the two together
+//   quiet    both together: the tests by which all codes are passed
 pub mod depths;
 pub mod ends;
 pub mod quiet;

@@ -9,11 +9,10 @@ use lib.Seq.{getD-set-same, getD-set-other}
 use lib.Dec.{ltb, eqb}
 use borrow.Author.Tests.{ltb-true, ltb-false, lt-ltb, eqb-true, eqb-false}
 use Rattle.terms.specs.Base.{pick}
-use Rattle.model.specs.Records.{packAction, actionIn, lengthAt}
+use Rattle.model.specs.Records.{packAction, actionIn, actionNumber, lengthAt}
 use Rattle.model.specs.Fields.{closing, inForm}
 use Rattle.model.specs.declared.records.Action.{Action}
 use Rattle.model.proofs.Pack.{SmallAction, action-packed}
-use Rattle.audit.specs.Programs.{numberOf}
 use Rattle.reader.proofs.LoadedFacts.{Operand, ActionNumber, Programs}
 use Rattle.reader.proofs.LoadedLists.{zero-at}
 
@@ -26,18 +25,18 @@ pub length-other : (l : List ℕ) (p q v : ℕ) → (q ≡ p → ⊥) → length
 unfolding lengthAt
 length-other l p q v f = rw (getD-set-other l p q v 0 f)
 
-pub number-same : (l : List ℕ) (p k v : ℕ) → length l ≡ 512 → p < 32 → k < 16 → numberOf (set l (p * 16 + k) v) p k ≡ v
-unfolding numberOf
+pub number-same : (l : List ℕ) (p k v : ℕ) → length l ≡ 512 → p < 32 → k < 16 → actionNumber (set l (p * 16 + k) v) p k ≡ v
+unfolding actionNumber
 number-same l p k v e h g = rw (lt-ltb (p * 16 + k) 512 (omega arith)) (getD-set-same l (p * 16 + k) v 0 (omega arith))
 
-pub number-other : (l : List ℕ) (p k q j v : ℕ) → k < 16 → j < 16 → (q ≡ p → j ≡ k → ⊥) → numberOf (set l (p * 16 + k) v) q j ≡ numberOf l q j
-unfolding numberOf
+pub number-other : (l : List ℕ) (p k q j v : ℕ) → k < 16 → j < 16 → (q ≡ p → j ≡ k → ⊥) → actionNumber (set l (p * 16 + k) v) q j ≡ actionNumber l q j
+unfolding actionNumber
 number-other l p k q j v h g f = rw (getD-set-other l (p * 16 + k) (q * 16 + j) v 0 (λ e. f (omega arith) (omega arith)))
 
 -- no program, no action
-pub none-programs : {acts lengths needs : List ℕ} {programs count : ℕ} {closed : Bool} (needs' : List ℕ) (count' : ℕ) → programs ≡ 0
-    → Programs acts lengths programs closed needs count → Programs acts lengths programs closed needs' count'
-none-programs {programs = programs} needs' count' e P = record {
+pub none-programs : {acts lengths tops : List ℕ} {programs count : ℕ} {closed : Bool} (tops' : List ℕ) (count' : ℕ) → programs ≡ 0
+    → Programs acts lengths programs closed tops count → Programs acts lengths programs closed tops' count'
+none-programs {programs = programs} tops' count' e P = record {
   long = P .long;
   wide = P .wide;
   most = P .most;
@@ -58,12 +57,12 @@ none : (p : ℕ) → lengthAt (replicate 32 0) p ≡ 0
 unfolding lengthAt
 none p = zero-pick (ltb p 32) (getD (replicate 32 0) p 0) (zero-at 32 p)
 
-nought : (p k : ℕ) → numberOf (replicate 512 0) p k ≡ 0
-unfolding numberOf
+nought : (p k : ℕ) → actionNumber (replicate 512 0) p k ≡ 0
+unfolding actionNumber
 nought p k = zero-pick (ltb (p * 16 + k) 512) (getD (replicate 512 0) (p * 16 + k) 0) (zero-at 512 (p * 16 + k))
 
-pub fresh-programs : (closed : Bool) (needs : List ℕ) (count : ℕ) → Programs (replicate 512 0) (replicate 32 0) 0 closed needs count
-fresh-programs closed needs count = record {
+pub fresh-programs : (closed : Bool) (tops : List ℕ) (count : ℕ) → Programs (replicate 512 0) (replicate 32 0) 0 closed tops count
+fresh-programs closed tops count = record {
   long = length-replicate {A = ℕ} 512 0;
   wide = length-replicate {A = ℕ} 32 0;
   most = omega arith;
@@ -77,10 +76,10 @@ fresh-programs closed needs count = record {
 }
 
 -- action a is the next one of program p
-module _ {acts lengths needs : List ℕ} {programs count : ℕ} {closed : Bool} (P : Programs acts lengths programs closed needs count) (p : ℕ) (h : p < 32)
+module _ {acts lengths tops : List ℕ} {programs count : ℕ} {closed : Bool} (P : Programs acts lengths programs closed tops count) (p : ℕ) (h : p < 32)
     (here : p ≤ programs) (goes : (p < programs) → (p + 1 ≡ programs) × (closed ≡ false)) (room : lengthAt lengths p < 16)
     (a : Action) (small : SmallAction a) (form : inForm a ≡ true)
-    (x : Operand needs count (lengthAt lengths p) (a .x)) (y : Operand needs count (lengthAt lengths p) (a .y)) where
+    (x : Operand tops count (lengthAt lengths p) (a .x)) (y : Operand tops count (lengthAt lengths p) (a .y)) where
   abbrev k : ℕ
   k = lengthAt lengths p
 
@@ -98,7 +97,7 @@ module _ {acts lengths needs : List ℕ} {programs count : ℕ} {closed : Bool} 
       by true e = ltb-true q programs e
       by false e = absurd (omega (arith, g, P .past q (ltb-false q programs e)))
 
-  number-new : ActionNumber needs count k (packAction a)
+  number-new : ActionNumber tops count k (packAction a)
   number-new = record {
     exact = rw (action-packed a small);
     form = rw (action-packed a small) form;
@@ -109,7 +108,7 @@ module _ {acts lengths needs : List ℕ} {programs count : ℕ} {closed : Bool} 
   -- an action of the table with the new one is the new one, or stood there before
   data Which (q j : ℕ) : Type 0 where
     new : q ≡ p → j ≡ k → Which q j
-    old : j < lengthAt lengths q → numberOf acts' q j ≡ numberOf acts q j → Which q j
+    old : j < lengthAt lengths q → actionNumber acts' q j ≡ actionNumber acts q j → Which q j
 
   which : (q j : ℕ) → j < lengthAt lengths' q → Which q j
   which q j g = by (eqb q p) refl
@@ -130,17 +129,17 @@ module _ {acts lengths needs : List ℕ} {programs count : ℕ} {closed : Bool} 
           let m : j < lengthAt lengths q = omega (arith, g, l) in
           old m (number-other acts p k q j (packAction a) room (omega (arith, P .short q, m)) (λ u v. n u))
 
-  new-actions : (q j : ℕ) → j < lengthAt lengths' q → ActionNumber needs count j (numberOf acts' q j)
+  new-actions : (q j : ℕ) → j < lengthAt lengths' q → ActionNumber tops count j (actionNumber acts' q j)
   new-actions q j g = by (which q j g)
     where
-      by : Which q j → ActionNumber needs count j (numberOf acts' q j)
+      by : Which q j → ActionNumber tops count j (actionNumber acts' q j)
       by (new s t) = rw (s, t, number-same acts p k (packAction a) (P .long) h room) number-new
       by (old m e) = rw e (P .actions q j m)
 
-  new-last : (q j : ℕ) → j < lengthAt lengths' q → closing (actionIn (numberOf acts' q j) .op) ≡ true → j + 1 ≡ lengthAt lengths' q
+  new-last : (q j : ℕ) → j < lengthAt lengths' q → closing (actionIn (actionNumber acts' q j) .op) ≡ true → j + 1 ≡ lengthAt lengths' q
   new-last q j g c = by (which q j g)
     where
-      here-old : j < lengthAt lengths q → numberOf acts' q j ≡ numberOf acts q j → (t : Bool) → eqb q p ≡ t → j + 1 ≡ lengthAt lengths' q
+      here-old : j < lengthAt lengths q → actionNumber acts' q j ≡ actionNumber acts q j → (t : Bool) → eqb q p ≡ t → j + 1 ≡ lengthAt lengths' q
       here-old m e true s =
           let r : q ≡ p = eqb-true q p s in
           let o = goes (subst (λ u. u < programs) r (there q j m)) in
@@ -151,7 +150,7 @@ module _ {acts lengths needs : List ℕ} {programs count : ℕ} {closed : Bool} 
       by (new s t) = rw (s, t, length-same lengths p (k + 1) (P .wide) h)
       by (old m e) = here-old m e (eqb q p) refl
 
-  new-going : closing (a .op) ≡ false → (q j : ℕ) → q + 1 ≡ p + 1 → j < lengthAt lengths' q → closing (actionIn (numberOf acts' q j) .op) ≡ true → ⊥
+  new-going : closing (a .op) ≡ false → (q j : ℕ) → q + 1 ≡ p + 1 → j < lengthAt lengths' q → closing (actionIn (actionNumber acts' q j) .op) ≡ true → ⊥
   new-going f q j e g c = by (which q j g)
     where
       by : Which q j → ⊥
@@ -198,17 +197,17 @@ module _ {acts lengths needs : List ℕ} {programs count : ℕ} {closed : Bool} 
       by (as-before n e) true i = let o = goes (ltb-true p programs i) .0 in e ∙ P .past q (omega (arith, o, g))
       by (as-before n e) false i = let o = ltb-false p programs i in e ∙ P .past q (omega (arith, o, here, g))
 
-  new-zeros : (q j : ℕ) → lengthAt lengths' q ≤ j → j < 16 → numberOf acts' q j ≡ 0
+  new-zeros : (q j : ℕ) → lengthAt lengths' q ≤ j → j < 16 → actionNumber acts' q j ≡ 0
   new-zeros q j g i = by (long-now q)
     where
-      by : Long q → numberOf acts' q j ≡ 0
+      by : Long q → actionNumber acts' q j ≡ 0
       by (longer s e) =
           let m : k < j = omega (arith, e, g) in
           let n : lengthAt lengths q ≤ j = subst (λ r. lengthAt lengths r ≤ j) (sym s) (omega (arith, m)) in
           number-other acts p k q j (packAction a) room i (λ u v. omega (arith, v, m)) ∙ P .zeros q j n i
       by (as-before n e) = number-other acts p k q j (packAction a) room i (λ u v. n u) ∙ P .zeros q j (omega (arith, e, g)) i
 
-  pub next-action : Programs acts' lengths' (p + 1) (closing (a .op)) needs count
+  pub next-action : Programs acts' lengths' (p + 1) (closing (a .op)) tops count
   next-action = record {
     long = length-set acts (p * 16 + k) (packAction a) ∙ P .long;
     wide = length-set lengths p (k + 1) ∙ P .wide;

@@ -1,25 +1,25 @@
 -- The listing of the model Bare in document 01, as bytes: it loads, as that very model. So the reader does not turn every
 -- file away. With the code of a program that is not listed it is refused.
-use Prim.Native.Nat.{ℕ}
 use mathlib.Core.Path.{_≡_, refl}
-use mathlib.Core.List.{List, [], _∷_}
+use Rattle.terms.specs.Base.{largerOf}
 use Rattle.terms.specs.Term.{shapeOf, inLimits, partsBelow, afterParts}
 use Rattle.terms.specs.Line.{packed, termIn, depthIn, groundIn}
-use Rattle.terms.specs.Grade.{deeperOf, aboveLine, aboveBoth, gradeOf}
+use Rattle.terms.specs.Grade.{aboveLine, aboveBoth, gradeOf}
 use Rattle.terms.specs.Table.{fixedLine, freshTable, freeOf, findIn, findLine, findTerm, addTo}
-use Rattle.model.specs.Records.{packAction, actionIn, packMachine, packLocation, packThread, lengthAt, actionAt, locationAt, locationIn}
-use Rattle.model.specs.Fields.{locOf, usesX, usesY, closing, locInForm, unusedZero, inForm, isMemory, isRegister, kindFits}
+use Rattle.model.specs.Records.{packAction, actionIn, packMachine, packLocation, packThread, lengthAt, actionNumber, actionAt, locationAt, locationIn}
+use Rattle.model.specs.Fields.{locOf, namesLocation, usesX, usesY, closing, locInForm, unusedZero, inForm, isMemory, isRegister, kindFits}
 use Rattle.model.specs.First.{firstFrom}
 use Rattle.lines.specs.Line.{span, noLF, cutLine, linesOf}
 use Rattle.lines.specs.Field.{isDigit, wellSpelt, numberFrom, numberOf, fieldOf}
-use Rattle.audit.specs.Each.{allFrom}
-use Rattle.audit.specs.Programs as Programs
+use Rattle.terms.specs.Each.{allFrom}
+use Rattle.audit.specs.Models.{namesProgram}
+use Rattle.audit.specs.Tops.{pastOf, topAt, topOf}
 use Rattle.audit.specs.Programs.{equalActions, equalPrograms, newProgram}
-use Rattle.audit.proofs.Bare.{bareWith}
+use Rattle.audit.specs.Bare.{bareWith}
 use Rattle.reader.specs.Numbers.{noFields, badFields, fieldsWith, fieldsIn, fieldsOf, areFields, upTo255}
 use Rattle.reader.specs.Drafts.{noClaim, freshDraft, followsGroup, withEdition, withTerm, withAction, withMachine, withLocation, withThread, withClaim}
 use Rattle.reader.specs.VLine.{knownEdition, versionOrder21, versionRefusal, versionLine}
-use Rattle.reader.specs.ELine.{needAt, pastOf, largerOf, needOf, termOf, termOrder21, termLimits22, codePast, termNames23, termTwice24, termKind25, termRefusal, termCounted, termEntry, termLine}
+use Rattle.reader.specs.ELine.{termOf, termOrder21, termLimits22, termNames23, termTwice24, termKind25, termRefusal, termCounted, termEntry, termLine}
 use Rattle.reader.specs.ALine.{actionOf, actionOrder21, actionLimits22, locationPast, labelBad, actionNames23, actionRefusal, actionCounted, actionEntry, actionLine}
 use Rattle.reader.specs.MLine.{machineOrder21, machineLimits22, machineNames23, machineRefusal, machineOf, machineEntry, machineLine}
 use Rattle.reader.specs.LLine.{locationOrder21, locationLimits22, locationNames23, locationKind25, locationRefusal, locationOf, locationEntry, locationLine}
@@ -28,24 +28,13 @@ use Rattle.reader.specs.CLine.{claimForm20, pathNames23, claimNames23, c
 use Rattle.reader.specs.FirstReading.{oneLine, nextLine, wholeRead, readFrom, firstReading}
 use Rattle.reader.specs.SecondReading.{firstBadCode, lineOfLabel, programTwice24, actionSecond, withinFrom, programReading, programsFrom, programsReading, secondReading}
 use Rattle.reader.specs.Load.{noModel, modelOf, refusedWith, loadOf, loaded}
-
--- its lines in their order; n is the digit of the program whose code is label 3
-abbrev pub bareFile : ℕ → List ℕ
-bareFile n =
-    86 ∷ 9 ∷ 49 ∷ 10 ∷
-    69 ∷ 9 ∷ 51 ∷ 9 ∷ 56 ∷ 9 ∷ n ∷ 9 ∷ 48 ∷ 10 ∷
-    65 ∷ 9 ∷ 48 ∷ 9 ∷ 49 ∷ 57 ∷ 9 ∷ 48 ∷ 9 ∷ 51 ∷ 9 ∷ 48 ∷ 10 ∷
-    65 ∷ 9 ∷ 49 ∷ 9 ∷ 49 ∷ 55 ∷ 9 ∷ 48 ∷ 9 ∷ 48 ∷ 9 ∷ 48 ∷ 10 ∷
-    77 ∷ 9 ∷ 48 ∷ 9 ∷ 48 ∷ 9 ∷ 48 ∷ 9 ∷ 48 ∷ 10 ∷
-    84 ∷ 9 ∷ 49 ∷ 9 ∷ 48 ∷ 9 ∷ 49 ∷ 10 ∷
-    67 ∷ 9 ∷ 48 ∷ 9 ∷ 49 ∷ 9 ∷ 48 ∷ 9 ∷ 48 ∷ 10 ∷
-    []
+use Rattle.reader.specs.BareFile.{bareFile}
 
 pub bare-loads : loadOf (bareFile 49) ≡ loaded 0 0 (bareWith 1)
-unfolding noFields badFields fieldsWith fieldsIn fieldsOf areFields upTo255 noClaim freshDraft followsGroup withEdition withTerm withAction withMachine withLocation withThread withClaim knownEdition versionOrder21 versionRefusal versionLine needAt pastOf largerOf needOf termOf termOrder21 termLimits22 codePast termNames23 termTwice24 termKind25 termRefusal termCounted termEntry termLine actionOf actionOrder21 actionLimits22 locationPast labelBad actionNames23 actionRefusal actionCounted actionEntry actionLine machineOrder21 machineLimits22 machineNames23 machineRefusal machineOf machineEntry machineLine locationOrder21 locationLimits22 locationNames23 locationKind25 locationRefusal locationOf locationEntry locationLine threadNames23 threadRefusal threadOf threadEntry threadLine claimForm20 pathNames23 claimNames23 claimRefusal claimOf claimLine oneLine nextLine wholeRead readFrom firstReading firstFrom firstBadCode lineOfLabel programTwice24 actionSecond withinFrom programReading programsFrom programsReading secondReading noModel modelOf refusedWith loadOf shapeOf inLimits partsBelow packed termIn depthIn groundIn deeperOf aboveLine aboveBoth gradeOf fixedLine freshTable freeOf findIn findLine findTerm addTo afterParts packAction actionIn packMachine packLocation packThread lengthAt actionAt locationAt locationIn locOf usesX usesY closing locInForm unusedZero inForm isMemory isRegister kindFits span noLF cutLine linesOf isDigit wellSpelt numberFrom numberOf fieldOf allFrom equalActions equalPrograms newProgram Programs.numberOf
+unfolding noFields badFields fieldsWith fieldsIn fieldsOf areFields upTo255 noClaim freshDraft followsGroup withEdition withTerm withAction withMachine withLocation withThread withClaim knownEdition versionOrder21 versionRefusal versionLine topAt pastOf topOf termOf termOrder21 termLimits22 namesProgram termNames23 termTwice24 termKind25 termRefusal termCounted termEntry termLine actionOf actionOrder21 actionLimits22 locationPast labelBad actionNames23 actionRefusal actionCounted actionEntry actionLine machineOrder21 machineLimits22 machineNames23 machineRefusal machineOf machineEntry machineLine locationOrder21 locationLimits22 locationNames23 locationKind25 locationRefusal locationOf locationEntry locationLine threadNames23 threadRefusal threadOf threadEntry threadLine claimForm20 pathNames23 claimNames23 claimRefusal claimOf claimLine oneLine nextLine wholeRead readFrom firstReading firstFrom firstBadCode lineOfLabel programTwice24 actionSecond withinFrom programReading programsFrom programsReading secondReading noModel modelOf refusedWith loadOf shapeOf inLimits partsBelow packed termIn depthIn groundIn largerOf aboveLine aboveBoth gradeOf fixedLine freshTable freeOf findIn findLine findTerm addTo afterParts packAction actionIn packMachine packLocation packThread lengthAt actionAt actionNumber locationAt locationIn namesLocation locOf usesX usesY closing locInForm unusedZero inForm isMemory isRegister kindFits span noLF cutLine linesOf isDigit wellSpelt numberFrom numberOf fieldOf allFrom equalActions equalPrograms newProgram
 bare-loads = refl
 
 -- "code programs .. (23)", at line 2
 pub bare-refused : loadOf (bareFile 50) ≡ refusedWith 23 2
-unfolding noFields badFields fieldsWith fieldsIn fieldsOf areFields upTo255 noClaim freshDraft followsGroup withEdition withTerm withAction withMachine withLocation withThread withClaim knownEdition versionOrder21 versionRefusal versionLine needAt pastOf largerOf needOf termOf termOrder21 termLimits22 codePast termNames23 termTwice24 termKind25 termRefusal termCounted termEntry termLine actionOf actionOrder21 actionLimits22 locationPast labelBad actionNames23 actionRefusal actionCounted actionEntry actionLine machineOrder21 machineLimits22 machineNames23 machineRefusal machineOf machineEntry machineLine locationOrder21 locationLimits22 locationNames23 locationKind25 locationRefusal locationOf locationEntry locationLine threadNames23 threadRefusal threadOf threadEntry threadLine claimForm20 pathNames23 claimNames23 claimRefusal claimOf claimLine oneLine nextLine wholeRead readFrom firstReading firstFrom firstBadCode lineOfLabel programTwice24 actionSecond withinFrom programReading programsFrom programsReading secondReading noModel modelOf refusedWith loadOf shapeOf inLimits partsBelow packed termIn depthIn groundIn deeperOf aboveLine aboveBoth gradeOf fixedLine freshTable freeOf findIn findLine findTerm addTo afterParts packAction actionIn packMachine packLocation packThread lengthAt actionAt locationAt locationIn locOf usesX usesY closing locInForm unusedZero inForm isMemory isRegister kindFits span noLF cutLine linesOf isDigit wellSpelt numberFrom numberOf fieldOf allFrom equalActions equalPrograms newProgram Programs.numberOf
+unfolding noFields badFields fieldsWith fieldsIn fieldsOf areFields upTo255 noClaim freshDraft followsGroup withEdition withTerm withAction withMachine withLocation withThread withClaim knownEdition versionOrder21 versionRefusal versionLine topAt pastOf topOf termOf termOrder21 termLimits22 namesProgram termNames23 termTwice24 termKind25 termRefusal termCounted termEntry termLine actionOf actionOrder21 actionLimits22 locationPast labelBad actionNames23 actionRefusal actionCounted actionEntry actionLine machineOrder21 machineLimits22 machineNames23 machineRefusal machineOf machineEntry machineLine locationOrder21 locationLimits22 locationNames23 locationKind25 locationRefusal locationOf locationEntry locationLine threadNames23 threadRefusal threadOf threadEntry threadLine claimForm20 pathNames23 claimNames23 claimRefusal claimOf claimLine oneLine nextLine wholeRead readFrom firstReading firstFrom firstBadCode lineOfLabel programTwice24 actionSecond withinFrom programReading programsFrom programsReading secondReading noModel modelOf refusedWith loadOf shapeOf inLimits partsBelow packed termIn depthIn groundIn largerOf aboveLine aboveBoth gradeOf fixedLine freshTable freeOf findIn findLine findTerm addTo afterParts packAction actionIn packMachine packLocation packThread lengthAt actionAt actionNumber locationAt locationIn namesLocation locOf usesX usesY closing locInForm unusedZero inForm isMemory isRegister kindFits span noLF cutLine linesOf isDigit wellSpelt numberFrom numberOf fieldOf allFrom equalActions equalPrograms newProgram
 bare-refused = refl

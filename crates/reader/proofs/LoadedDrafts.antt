@@ -66,12 +66,12 @@ module _ {l acts : List ℕ} {d : Draft} (D : Drafted l acts d) where
 
   -- after V and E lines alone there is no program yet
   pub with-term : (1 ≤ d .group) × (d .group ≤ 2) → {m : List ℕ} (x : Term) → (x .kind ≡ 7 → ⊥) → d .count < 512 → Grows l (d .count) m (d .count + 1)
-      → Den m (d .count + 1) (d .count) (means l (d .count) x) → (need : ℕ) → need ≡ topmost (means l (d .count) x)
-      → Drafted m acts (withTerm d (d .count) need)
+      → Den m (d .count + 1) (d .count) (means l (d .count) x) → (top : ℕ) → top ≡ topmost (means l (d .count) x)
+      → Drafted m acts (withTerm d (d .count) top)
   unfolding withTerm
-  with-term (a, b) {m} x seven room G N need e = record {
-    terms = next-term (D .terms) x seven room G N need e;
-    programs = none-programs (set (d .needs) (d .count) need) (d .count + 1) (D .order .no-program (omega arith)) (D .programs);
+  with-term (a, b) {m} x seven room G N top e = record {
+    terms = next-term (D .terms) x seven room G N top e;
+    programs = none-programs (set (d .tops) (d .count) top) (d .count + 1) (D .order .no-program (omega arith)) (D .programs);
     machines = D .machines;
     locations = none-listed (D .order .no-location (omega arith)) (D .locations);
     threads = D .threads;
@@ -90,7 +90,7 @@ module _ {l acts : List ℕ} {d : Draft} (D : Drafted l acts d) where
   -- after V, E and A lines alone there is no machine yet
   pub with-action : (1 ≤ d .group) × (d .group ≤ 3) → (p : ℕ) → p < 32 → p ≤ d .programs → (p < d .programs → (p + 1 ≡ d .programs) × (d .closed ≡ false))
       → lengthAt (d .lengths) p < 16 → (a : Action) → SmallAction a → inForm a ≡ true
-      → Operand (d .needs) (d .count) (lengthAt (d .lengths) p) (a .x) → Operand (d .needs) (d .count) (lengthAt (d .lengths) p) (a .y)
+      → Operand (d .tops) (d .count) (lengthAt (d .lengths) p) (a .x) → Operand (d .tops) (d .count) (lengthAt (d .lengths) p) (a .y)
       → Drafted l (set acts (p * 16 + lengthAt (d .lengths) p) (packAction a)) (withAction d p (lengthAt (d .lengths) p + 1) (closing (a .op)))
   unfolding withAction
   with-action (i, j) p h here goes room a small form x y = record {

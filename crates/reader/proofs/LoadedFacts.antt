@@ -8,45 +8,44 @@ use lib.ListN.{length, getD}
 use Rattle.terms.specs.Line.{lineAt, termAt, groundIn}
 use Rattle.terms.specs.Meaning.{treeOf}
 use Rattle.terms.specs.Sound.{Sound}
-use Rattle.model.specs.Records.{packAction, actionIn, packMachine, machineIn, packLocation, locationIn, packThread, threadIn, lengthAt}
+use Rattle.model.specs.Records.{packAction, actionIn, actionNumber, packMachine, machineIn, packLocation, locationIn, packThread, threadIn, lengthAt}
 use Rattle.model.specs.Fields.{closing, inForm, isMemory}
 use Rattle.model.specs.declared.records.Claim.{Claim}
 use Rattle.audit.specs.Tops.{topmost}
-use Rattle.audit.specs.Programs.{numberOf}
 use Rattle.reader.specs.declared.draft.Draft.{Draft}
 
 -- the fixed and the listed terms; what a label asks to be bound is the top of its term
-pub record Terms (l : List ℕ) (count : ℕ) (needs : List ℕ) : Type 0 where
+pub record Terms (l : List ℕ) (count : ℕ) (tops : List ℕ) : Type 0 where
   pub long : length l ≡ 512
   pub table : Sound l count
   pub nonces : (i : ℕ) → 3 ≤ i → i < count → termAt l i .kind ≡ 7 → ⊥
-  pub wide : length needs ≡ 512
-  pub right : (i : ℕ) → i < count → getD needs i 0 ≡ topmost (treeOf l count i)
+  pub wide : length tops ≡ 512
+  pub right : (i : ℕ) → i < count → getD tops i 0 ≡ topmost (treeOf l count i)
 
 -- a label of an operand of action k
-pub record Operand (needs : List ℕ) (count k label : ℕ) : Type 0 where
+pub record Operand (tops : List ℕ) (count k label : ℕ) : Type 0 where
   pub below : label < count
-  pub earlier : getD needs label 0 ≤ k
+  pub earlier : getD tops label 0 ≤ k
 
 -- action k of a program, as the number n
-pub record ActionNumber (needs : List ℕ) (count k n : ℕ) : Type 0 where
+pub record ActionNumber (tops : List ℕ) (count k n : ℕ) : Type 0 where
   pub exact : packAction (actionIn n) ≡ n
   pub form : inForm (actionIn n) ≡ true
-  pub x : Operand needs count k (actionIn n .x)
-  pub y : Operand needs count k (actionIn n .y)
+  pub x : Operand tops count k (actionIn n .x)
+  pub y : Operand tops count k (actionIn n .y)
 
-pub record Programs (acts lengths : List ℕ) (programs : ℕ) (closed : Bool) (needs : List ℕ) (count : ℕ) : Type 0 where
+pub record Programs (acts lengths : List ℕ) (programs : ℕ) (closed : Bool) (tops : List ℕ) (count : ℕ) : Type 0 where
   pub long : length acts ≡ 512
   pub wide : length lengths ≡ 32
   pub most : programs ≤ 32
   pub some : (p : ℕ) → p < programs → 1 ≤ lengthAt lengths p
   pub short : (p : ℕ) → lengthAt lengths p ≤ 16
   pub past : (p : ℕ) → programs ≤ p → lengthAt lengths p ≡ 0
-  pub actions : (p k : ℕ) → k < lengthAt lengths p → ActionNumber needs count k (numberOf acts p k)
+  pub actions : (p k : ℕ) → k < lengthAt lengths p → ActionNumber tops count k (actionNumber acts p k)
   -- a jump or a late launch is the last action, and the last program has none unless it is closed
-  pub last : (p k : ℕ) → k < lengthAt lengths p → closing (actionIn (numberOf acts p k) .op) ≡ true → k + 1 ≡ lengthAt lengths p
-  pub going : closed ≡ false → (p k : ℕ) → p + 1 ≡ programs → k < lengthAt lengths p → closing (actionIn (numberOf acts p k) .op) ≡ true → ⊥
-  pub zeros : (p k : ℕ) → lengthAt lengths p ≤ k → k < 16 → numberOf acts p k ≡ 0
+  pub last : (p k : ℕ) → k < lengthAt lengths p → closing (actionIn (actionNumber acts p k) .op) ≡ true → k + 1 ≡ lengthAt lengths p
+  pub going : closed ≡ false → (p k : ℕ) → p + 1 ≡ programs → k < lengthAt lengths p → closing (actionIn (actionNumber acts p k) .op) ≡ true → ⊥
+  pub zeros : (p k : ℕ) → lengthAt lengths p ≤ k → k < 16 → actionNumber acts p k ≡ 0
 
 -- n records, each as its number, in an array with room for more; past them stands 0
 pub record Listing (P : ℕ → Type 0) (room : ℕ) (l : List ℕ) (n : ℕ) : Type 0 where
@@ -93,8 +92,8 @@ pub record Order (group number programs machines locations threads : ℕ) : Type
   pub no-thread : group ≤ 5 → threads ≡ 0
 
 pub record Drafted (l acts : List ℕ) (d : Draft) : Type 0 where
-  pub terms : Terms l (d .count) (d .needs)
-  pub programs : Programs acts (d .lengths) (d .programs) (d .closed) (d .needs) (d .count)
+  pub terms : Terms l (d .count) (d .tops)
+  pub programs : Programs acts (d .lengths) (d .programs) (d .closed) (d .tops) (d .count)
   pub machines : Listing (MachineNumber (d .programs)) 4 (d .machines) (d .«machine_count»)
   pub locations : Listing (LocationNumber l (d .count) (d .«machine_count»)) 32 (d .locations) (d .«location_count»)
   pub threads : Listing (ThreadNumber (d .«machine_count») (d .programs)) 8 (d .threads) (d .«thread_count»)

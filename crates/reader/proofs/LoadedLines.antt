@@ -27,7 +27,7 @@ use Rattle.reader.specs.declared.draft.Draft.{Draft}
 use Rattle.reader.specs.declared.draft.Lined.{Lined}
 use Rattle.reader.proofs.LoadedFacts.{MachineNumber, LocationNumber, ThreadNumber, ClaimNamed, Drafted}
 use Rattle.model.proofs.Tests.{not-both, neither}
-use Rattle.reader.proofs.LoadedTests.{passes, entered, follows-in, capped-le, capped-small}
+use Rattle.reader.proofs.LoadedTests.{passes, entered, follows-in, up-to-255-le, up-to-255-small}
 use Rattle.reader.proofs.LoadedNumbers.{Numbers}
 use Rattle.reader.proofs.LoadedDrafts.{with-edition, with-machine, with-location, with-thread, with-claim}
 
@@ -85,8 +85,8 @@ module _ {l acts : List ℕ} (d : Draft) (f : Fields) (D : Drafted l acts d) (F 
       let launch : num f 2 < d .programs = leb-false _ _ (v .1) in
       let h : d .«machine_count» < 4 = omega arith in
       rw (machine-entered h (machineOf f)) (with-machine D (follows-in _ _ _ (not-false _ (p .0))) h (packMachine (machineOf f))
-      (machine-number (d .programs) (machineOf f) (record { boot = capped-small (num f 1); launch = capped-small (num f 2) })
-      (omega (arith, boot, capped-le (num f 1))) (omega (arith, launch, capped-le (num f 2)))))
+      (machine-number (d .programs) (machineOf f) (record { boot = up-to-255-small (num f 1); launch = up-to-255-small (num f 2) })
+      (omega (arith, boot, up-to-255-le (num f 1))) (omega (arith, launch, up-to-255-le (num f 2)))))
 
   pub machine-kept : machineLine d f .number ≡ 0 → Drafted l acts (machineLine d f .draft)
   unfolding machineLine
@@ -121,11 +121,11 @@ module _ {l acts : List ℕ} (d : Draft) (f : Fields) (D : Drafted l acts d) (F 
       let value : num f 3 < d .count = leb-false _ _ (v .1) in
       let w = neither (not (groundAt l (num f 3))) _ (k .0) in
       let h : d .«location_count» < 32 = omega arith in
-      let low : upTo255 (num f 2) < 4 = omega (arith, kind, capped-le (num f 2)) in
+      let low : upTo255 (num f 2) < 4 = omega (arith, kind, up-to-255-le (num f 2)) in
       rw (location-entered h (locationOf f)) (with-location D (follows-in _ _ _ (not-false _ (p .0))) h (packLocation (locationOf f))
       (location-number l (d .count) (d .«machine_count») (locationOf f)
-      (record { machine = capped-small (num f 1); kind = capped-small (num f 2); value = F .small 3 })
-      (omega (arith, on, capped-le (num f 1))) low value (not-false _ (w .0)) (register-first (upTo255 (num f 2)) (num f 3) low (w .1))))
+      (record { machine = up-to-255-small (num f 1); kind = up-to-255-small (num f 2); value = F .small 3 })
+      (omega (arith, on, up-to-255-le (num f 1))) low value (not-false _ (w .0)) (register-first (upTo255 (num f 2)) (num f 3) low (w .1))))
 
   pub location-kept : locationLine l d f .number ≡ 0 → Drafted l acts (locationLine l d f .draft)
   unfolding locationLine
@@ -148,8 +148,8 @@ module _ {l acts : List ℕ} (d : Draft) (f : Fields) (D : Drafted l acts d) (F 
       let program : num f 2 < d .programs = leb-false _ _ (v .1) in
       rw (thread-entered h (threadOf f)) (with-thread D (follows-in _ _ _ (not-false _ (o .0))) h (packThread (threadOf f))
       (thread-number (d .«machine_count») (d .programs) (threadOf f)
-      (record { agent = F .small 0; machine = capped-small (num f 1); program = capped-small (num f 2) })
-      (omega (arith, on, capped-le (num f 1))) (omega (arith, program, capped-le (num f 2)))))
+      (record { agent = F .small 0; machine = up-to-255-small (num f 1); program = up-to-255-small (num f 2) })
+      (omega (arith, on, up-to-255-le (num f 1))) (omega (arith, program, up-to-255-le (num f 2)))))
 
   pub thread-kept : threadLine d f .number ≡ 0 → Drafted l acts (threadLine d f .draft)
   unfolding threadLine
@@ -175,9 +175,9 @@ module _ {l acts : List ℕ} (d : Draft) (f : Fields) (D : Drafted l acts d) (F 
       let p2 : num f 5 < d .programs = leb-false _ _ (r .0) in
       let p3 : num f 6 < d .programs = leb-false _ _ (r .1) in
       record {
-        kind = omega (arith, k, capped-le (num f 0));
-        program = omega (arith, program, capped-le (num f 1));
-        machine = omega (arith, on, capped-le (num f 2));
+        kind = omega (arith, k, up-to-255-le (num f 0));
+        program = omega (arith, program, up-to-255-le (num f 1));
+        machine = omega (arith, on, up-to-255-le (num f 2));
         some = omega arith;
         most = omega arith;
         path = path most p0 p1 p2 p3;
@@ -189,17 +189,17 @@ module _ {l acts : List ℕ} (d : Draft) (f : Fields) (D : Drafted l acts d) (F 
 
       path : f .count ≤ 7 → num f 3 < d .programs → num f 4 < d .programs → num f 5 < d .programs → num f 6 < d .programs
           → (i : ℕ) → i < f .count - 3 → getD ps i 0 < d .programs
-      path m p0 p1 p2 p3 zero h = omega (arith, p0, capped-le (num f 3))
-      path m p0 p1 p2 p3 (suc zero) h = omega (arith, p1, capped-le (num f 4))
-      path m p0 p1 p2 p3 (suc (suc zero)) h = omega (arith, p2, capped-le (num f 5))
-      path m p0 p1 p2 p3 (suc (suc (suc zero))) h = omega (arith, p3, capped-le (num f 6))
+      path m p0 p1 p2 p3 zero h = omega (arith, p0, up-to-255-le (num f 3))
+      path m p0 p1 p2 p3 (suc zero) h = omega (arith, p1, up-to-255-le (num f 4))
+      path m p0 p1 p2 p3 (suc (suc zero)) h = omega (arith, p2, up-to-255-le (num f 5))
+      path m p0 p1 p2 p3 (suc (suc (suc zero))) h = omega (arith, p3, up-to-255-le (num f 6))
       path m p0 p1 p2 p3 (suc (suc (suc (suc i)))) h = absurd (omega arith)
 
       past : (i : ℕ) → f .count ≤ i + 3 → i < 4 → getD ps i 0 ≡ 0
-      past zero h g = omega (arith, capped-le (num f 3), F .past 3 (omega arith))
-      past (suc zero) h g = omega (arith, capped-le (num f 4), F .past 4 (omega arith))
-      past (suc (suc zero)) h g = omega (arith, capped-le (num f 5), F .past 5 (omega arith))
-      past (suc (suc (suc zero))) h g = omega (arith, capped-le (num f 6), F .past 6 (omega arith))
+      past zero h g = omega (arith, up-to-255-le (num f 3), F .past 3 (omega arith))
+      past (suc zero) h g = omega (arith, up-to-255-le (num f 4), F .past 4 (omega arith))
+      past (suc (suc zero)) h g = omega (arith, up-to-255-le (num f 5), F .past 5 (omega arith))
+      past (suc (suc (suc zero))) h g = omega (arith, up-to-255-le (num f 6), F .past 6 (omega arith))
       past (suc (suc (suc (suc i)))) h g = absurd (omega arith)
 
   claim-good : claimRefusal d f ≡ 0 → Drafted l acts (withClaim d (claimOf f))

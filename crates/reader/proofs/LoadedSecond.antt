@@ -5,21 +5,21 @@ use mathlib.Core.Bool.{Bool, true, false, not}
 use mathlib.Core.List.{List}
 use native.Mathlib.Omega.{arith}
 use lib.Dec.{ltb, eqb}
-use borrow.Author.Tests.{ltb-true, ltb-false, leb-false, eqb-true, eqb-false, eq-eqb, not-false}
+use borrow.Author.Tests.{ltb-true, ltb-false, eqb-true, eqb-false, eq-eqb, not-false}
 use Rattle.terms.specs.Base.{pick, also}
 use Rattle.terms.specs.Line.{termAt}
 use Rattle.terms.specs.declared.term.Term.{Term}
 use Rattle.model.specs.Records.{actionAt, lengthAt, locationAt}
 use Rattle.model.specs.Fields.{kindFits}
 use Rattle.model.specs.First.{firstFrom}
+use Rattle.audit.specs.Models.{namesProgram}
 use Rattle.audit.specs.Programs.{newProgram}
-use Rattle.reader.specs.ELine.{codePast}
 use Rattle.reader.specs.ALine.{locationPast}
 use Rattle.reader.specs.SecondReading.{refusal, firstBadCode, lineOfLabel, programTwice24, actionSecond}
 use Rattle.reader.specs.SecondReading.{within, withinFrom, programReading, programsFrom, programsReading, secondReading}
 use Rattle.reader.specs.declared.draft.Draft.{Draft}
 use Rattle.reader.specs.declared.second.Within.{Within}
-use Rattle.model.proofs.Tests.{not-both}
+use Rattle.model.proofs.Tests.{not-both, pick-yes}
 use Rattle.reader.proofs.LoadedTests.{passes}
 
 -- number i, or a later one
@@ -84,9 +84,10 @@ action-named acts lengths locs count p k e =
       new = λ h. not-false _ (not-both (eqb (k + 1) (lengthAt lengths p)) _ (b .0) (eq-eqb _ _ h));
     }
 
-code-named : (x : Term) (programs : ℕ) → codePast x programs ≡ false → x .kind ≡ 8 → x .a < programs
-unfolding codePast
-code-named x programs e h = leb-false _ _ (not-both (eqb (x .kind) 8) _ e (eq-eqb _ _ h))
+code-named : (x : Term) (programs : ℕ) → not (namesProgram x programs) ≡ false → x .kind ≡ 8 → x .a < programs
+unfolding namesProgram
+code-named x programs e h =
+    ltb-true _ _ (pick-yes (eqb (x .kind) 8) (ltb (x .a) programs) true (eq-eqb _ _ h) (not-false _ e))
 
 module _ (l acts : List ℕ) (d : Draft) where
   programs-named : programsReading acts d .number ≡ 0 → (p k : ℕ) → p < d .programs → k < lengthAt (d .lengths) p
@@ -101,7 +102,7 @@ module _ (l acts : List ℕ) (d : Draft) where
   unfolding firstBadCode
   codes-named h i g =
       code-named (termAt l i) (d .programs)
-      (first-none (d .count) 0 (λ j. codePast (termAt l j) (d .programs)) (omega arith) i (omega arith) (omega arith))
+      (first-none (d .count) 0 (λ j. not (namesProgram (termAt l j) (d .programs))) (omega arith) i (omega arith) (omega arith))
 
   pub second-named : secondReading l acts d .number ≡ 0 → Named l acts d
   unfolding secondReading

@@ -5,24 +5,23 @@ use mathlib.Core.Bool.{Bool, true, false}
 use mathlib.Core.List.{List}
 use native.Mathlib.Omega.{arith}
 use lib.ListN.{length, replicate}
-use lib.Dec.{eqb}
+use lib.Dec.{eqb, leb}
 use borrow.Author.Tests.{leb-false, eqb-true, eqb-false, not-true}
 use Rattle.terms.specs.Base.{pick}
 use Rattle.terms.specs.Table.{freshTable}
 use Rattle.terms.proofs.Meaning.{ground-right}
-use Rattle.model.specs.Records.{actionIn, actionAt, lengthAt}
-use Rattle.model.specs.Fields.{locOf}
+use Rattle.model.specs.Records.{actionIn, actionNumber, actionAt, lengthAt}
+use Rattle.model.specs.Fields.{namesLocation}
 use Rattle.model.specs.declared.records.Action.{Action}
 use Rattle.model.specs.declared.records.Model.{Model}
-use Rattle.model.specs.declared.fields.Loc.{Loc}
-use Rattle.model.specs.declared.fields.Loc.the-variants.{Any, Memory, Register, Function, Unused}
-use Rattle.audit.specs.Programs.{namesLocation, numberOf, newProgram}
+use Rattle.audit.specs.Programs.{newProgram}
 use Rattle.audit.specs.Models.{soundModel}
 use Rattle.audit.specs.Sound.{FitOperand, FitAction, FitProgram, FitMachine, FitLocation, FitThread, FitClaim, ZeroPast, SoundModel}
-use Rattle.audit.proofs.Laws.{each-at}
-use Rattle.audit.proofs.Places.{machine-in, location-in, thread-in, action-in}
+use Rattle.terms.proofs.Each.{each-at}
+use Rattle.model.proofs.Tests.{not-both}
+use Rattle.model.proofs.Places.{machine-in, location-in, thread-in, action-in}
 use Rattle.audit.proofs.Check.{model-test}
-use Rattle.reader.specs.ALine.{pastBy, locationPast}
+use Rattle.reader.specs.ALine.{locationPast}
 use Rattle.reader.specs.FirstReading.{Kept, firstReading}
 use Rattle.reader.specs.SecondReading.{secondReading}
 use Rattle.reader.specs.Load.{modelOf, loaded, refusedWith, loadSecond, loadFirst, loadOf}
@@ -35,22 +34,15 @@ use Rattle.reader.proofs.LoadedFirst.{Whole, first-ends}
 use Rattle.reader.proofs.LoadedSecond.{Named, second-named}
 
 -- a location that is named is one of those listed
-named-below : (s : Loc) (loc count : ℕ) → namesLocation s ≡ true → pastBy s loc count ≡ false → loc < count
-named-below Any loc count h e = leb-false _ _ e
-named-below Memory loc count h e = leb-false _ _ e
-named-below Register loc count h e = leb-false _ _ e
-named-below Function loc count h e = let z : _≡_ {A = ℕ} 0 1 = cc in absurd (omega arith)
-named-below Unused loc count h e = let z : _≡_ {A = ℕ} 0 1 = cc in absurd (omega arith)
-
-location-below : (a : Action) (count : ℕ) → namesLocation (locOf (a .op)) ≡ true → locationPast a count ≡ false → a .loc < count
+location-below : (a : Action) (count : ℕ) → namesLocation (a .op) ≡ true → locationPast a count ≡ false → a .loc < count
 unfolding locationPast
-location-below a count h e = named-below (locOf (a .op)) (a .loc) count h e
+location-below a count h e = leb-false count (a .loc) (not-both (namesLocation (a .op)) (leb count (a .loc)) e h)
 
 module _ {l acts : List ℕ} {d : Draft} (D : Drafted l acts d) (N : Named l acts d) (last : d .group ≡ 7) where
   abbrev m : Model
   m = modelOf l acts d
 
-  operand-fit : (k label : ℕ) → Operand (d .needs) (d .count) k label → FitOperand m k label
+  operand-fit : (k label : ℕ) → Operand (d .tops) (d .count) k label → FitOperand m k label
   unfolding modelOf
   operand-fit k label O = record { below = O .below; earlier = omega (arith, O .earlier, D .terms .right label (O .below)) }
 
@@ -64,8 +56,8 @@ module _ {l acts : List ℕ} {d : Draft} (D : Drafted l acts d) (N : Named l act
         form = rw s (A .form);
         last = rw s (D .programs .last p k g);
         loc = λ e. record { below = location-below (actionAt acts p k) (d .«location_count») e (S .location); kind = S .kind };
-        x = rw s (operand-fit k (actionIn (numberOf acts p k) .x) (A .x));
-        y = rw s (operand-fit k (actionIn (numberOf acts p k) .y) (A .y));
+        x = rw s (operand-fit k (actionIn (actionNumber acts p k) .x) (A .x));
+        y = rw s (operand-fit k (actionIn (actionNumber acts p k) .y) (A .y));
       }
 
   program-fit : (p : ℕ) → p < d .programs → FitProgram m p

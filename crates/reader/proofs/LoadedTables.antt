@@ -1,33 +1,29 @@
 -- A good line of E or A keeps the facts. These two change a lent table.
-use Prim.Native.Nat.{ℕ, _+_, _*_, _<_, _≤_, max}
-use mathlib.Core.Path.{_≡_, refl, ap₂, _∙_, subst}
+use Prim.Native.Nat.{ℕ, _+_, _*_, _<_, _≤_}
+use mathlib.Core.Path.{_≡_, refl, _∙_, subst}
 use mathlib.Core.Bool.{Bool, true, false, not}
 use mathlib.Core.List.{List}
 use native.Mathlib.Omega.{arith}
-use lib.ListN.{getD, set}
-use lib.Dec.{ltb, leb, eqb}
-use borrow.Author.Tests.{ltb-true, ltb-false, leb-false, eqb-true, eqb-false, lt-ltb, lt-leb, not-false}
+use lib.ListN.{set}
+use lib.Dec.{leb, eqb}
+use borrow.Author.Tests.{ltb-false, leb-false, eqb-true, eqb-false, lt-leb, not-false}
 use Rattle.terms.specs.Base.{pick, Held, held}
-use Rattle.terms.specs.Term.{shapeOf, limitsBy, inLimits, partsBy, partsBelow}
+use Rattle.terms.specs.Term.{inLimits, partsBelow}
 use Rattle.terms.specs.Table.{addTo}
-use Rattle.terms.specs.Tree.{Tree, leaf, nought}
-use Rattle.terms.specs.Meaning.{buildBy, build, trees, treeOf, means}
+use Rattle.terms.specs.Meaning.{means}
 use Rattle.terms.specs.Promise.{Fit, Adds, deep, listed, new, full}
 use Rattle.terms.specs.declared.term.Term.{Term}
-use Rattle.terms.specs.declared.term.Shape.{Shape}
-use Rattle.terms.specs.declared.term.Shape.the-variants.{Bare, Number, Variable, Sealed, Hashed, Applied, Joined, Unknown}
 use Rattle.terms.specs.declared.table.Added.{Added}
-use Rattle.terms.proofs.Meaning.{also-left, also-right, variable-six, pick-max}
 use Rattle.terms.proofs.Add.{adds}
 use Rattle.model.specs.Records.{packAction, lengthAt}
 use Rattle.model.specs.Fields.{closing}
 use Rattle.model.specs.declared.records.Action.{Action}
 use Rattle.model.proofs.Pack.{SmallAction}
-use Rattle.audit.specs.Tops.{topmost}
-use Rattle.audit.proofs.Highest.{leaf-top}
+use Rattle.audit.specs.Tops.{topmost, topAt, topOf}
+use Rattle.audit.proofs.Highest.{top-means, top-in}
 use Rattle.reader.specs.Numbers.{areFields, num, upTo255}
 use Rattle.reader.specs.Drafts.{lined, followsGroup, withTerm, withAction}
-use Rattle.reader.specs.ELine.{needAt, pastOf, largerOf, needBy, needOf, termOf, termOrder21, termLimits22, termNames23}
+use Rattle.reader.specs.ELine.{termOf, termOrder21, termLimits22, termNames23}
 use Rattle.reader.specs.ELine.{termTwice24, termKind25, termRefusal, termCounted, asEntered, termEntry, termLine}
 use Rattle.reader.specs.ALine.{actionOf, actionOrder21, actionLimits22, locationPast, labelBad, actionNames23}
 use Rattle.reader.specs.ALine.{actionRefusal, actionCounted, actionEntry, actionLine}
@@ -36,45 +32,15 @@ use Rattle.reader.specs.declared.draft.Draft.{Draft}
 use Rattle.reader.specs.declared.draft.Lined.{Lined}
 use Rattle.reader.proofs.LoadedFacts.{Terms, Operand, Drafted}
 use Rattle.model.proofs.Tests.{neither}
-use Rattle.reader.proofs.LoadedTests.{passes, judged, follows-in, capped-small}
+use Rattle.reader.proofs.LoadedTests.{passes, judged, follows-in, up-to-255-small}
 use Rattle.reader.proofs.LoadedNumbers.{Numbers}
 use Rattle.reader.proofs.LoadedDrafts.{with-term, with-action}
 
--- What a term asks to be bound is its top
-
-larger-max : (m n : ℕ) → largerOf m n ≡ max m n
-unfolding largerOf
-larger-max m n = pick-max m n
-
-variable-asks : (k a : ℕ) → shapeOf k ≡ Variable → a < 16 → pastOf a ≡ topmost (leaf k a)
-unfolding topmost pastOf
-variable-asks k a e h = rw (variable-six k e, lt-ltb a 16 h)
-
-need-in : (ns : List ℕ) (j : ℕ) → j < 512 → needAt ns j ≡ getD ns j 0
-unfolding needAt
-need-in ns j h = rw (lt-ltb j 512 h)
-
-asks-by : (s : Shape) (k a b n : ℕ) (ns : List ℕ) (ts : List Tree) → shapeOf k ≡ s → limitsBy s a b ≡ true → partsBy s a b n ≡ true
-    → ((j : ℕ) → j < n → needAt ns j ≡ topmost (getD ts j nought)) → needBy s ns a b ≡ topmost (buildBy s k a b ts)
-unfolding topmost
-asks-by Bare k a b n ns ts e u p f = leaf-top k a (λ h. let z : _≡_ {A = ℕ} 0 1 = cc in omega arith)
-asks-by Number k a b n ns ts e u p f = leaf-top k a (λ h. let z : _≡_ {A = ℕ} 0 1 = cc in omega arith)
-asks-by Variable k a b n ns ts e u p f = variable-asks k a e (ltb-true a 16 (also-left (ltb a 16) (eqb b 0) u))
-asks-by Sealed k a b n ns ts e u p f = f a (ltb-true a n p)
-asks-by Hashed k a b n ns ts e u p f = f a (ltb-true a n p)
-asks-by Applied k a b n ns ts e u p f = f b (ltb-true b n p)
-asks-by Joined k a b n ns ts e u p f =
-    let q = f a (ltb-true a n (also-left (ltb a n) (ltb b n) p)) in
-    let r = f b (ltb-true b n (also-right (ltb a n) (ltb b n) p)) in
-    larger-max (needAt ns a) (needAt ns b) ∙ ap₂ max q r
-asks-by Unknown k a b n ns ts e u p f = leaf-top k a (λ h. let z : _≡_ {A = ℕ} 0 1 = cc in omega arith)
-
-asks : {l : List ℕ} {c : ℕ} {ns : List ℕ} → Terms l c ns → (x : Term) → Fit x c → needOf ns x ≡ topmost (means l c x)
-unfolding needOf means build treeOf inLimits partsBelow
-asks {l} {c} {ns} T x F =
+-- what a new term asks to be bound
+asks : {l : List ℕ} {c : ℕ} {ks : List ℕ} → Terms l c ks → (x : Term) → Fit x c → topOf ks x ≡ topmost (means l c x)
+asks {l} {c} {ks} T x F =
     let r = T .table .room in
-    asks-by (shapeOf (x .kind)) (x .kind) (x .a) (x .b) c ns (trees l c) refl (F .limits) (F .parts)
-    (λ j h. need-in ns j (omega arith) ∙ T .right j h)
+    top-means l c c x ks (F .limits) (F .parts) (λ j h. top-in ks j (omega arith) ∙ T .right j h)
 
 module _ {l acts : List ℕ} (d : Draft) (f : Fields) (D : Drafted l acts d) (F : Numbers f) where
   -- a line that leaves the facts
@@ -84,7 +50,7 @@ module _ {l acts : List ℕ} (d : Draft) (f : Fields) (D : Drafted l acts d) (F 
   abbrev OnActions : Held Lined → Type 0
   OnActions r = Drafted l (r .table) (r .out .draft)
 
-  term-counted : (label : ℕ) (x : Term) → label < 512 → termCounted d label x ≡ withTerm d label (needOf (d .needs) x)
+  term-counted : (label : ℕ) (x : Term) → label < 512 → termCounted d label x ≡ withTerm d label (topOf (d .tops) x)
   unfolding termCounted
   term-counted label x h = rw (lt-leb 512 label h)
 
@@ -94,7 +60,7 @@ module _ {l acts : List ℕ} (d : Draft) (f : Fields) (D : Drafted l acts d) (F 
   term-by x g X seven r (listed h N) e = absurd (omega arith)
   term-by x g X seven r (full h n c) e = absurd (omega arith)
   term-by x g X seven r (new h n c G N t) e =
-      rw (term-counted (d .count) x c) (with-term D g x seven c G N (needOf (d .needs) x) (asks (D .terms) x X))
+      rw (term-counted (d .count) x c) (with-term D g x seven c G N (topOf (d .tops) x) (asks (D .terms) x X))
 
   term-entered : (x : Term) → (1 ≤ d .group) × (d .group ≤ 2) → Fit x (d .count) → (x .kind ≡ 7 → ⊥) → termEntry l d x .out .number ≡ 0
       → OnTerms (termEntry l d x)
@@ -107,7 +73,7 @@ module _ {l acts : List ℕ} (d : Draft) (f : Fields) (D : Drafted l acts d) (F 
 
   term-fit : inLimits (termOf f) ≡ true → partsBelow (termOf f) (d .count) ≡ true → Fit (termOf f) (d .count)
   unfolding termOf
-  term-fit a b = record { limits = a; parts = b; kind = capped-small (num f 1); first = F .small 2; second = F .small 3 }
+  term-fit a b = record { limits = a; parts = b; kind = up-to-255-small (num f 1); first = F .small 2; second = F .small 3 }
 
   term-good : termRefusal l (d .group) (d .count) f (termOf f) ≡ 0 → termEntry l d (termOf f) .out .number ≡ 0 → OnTerms (termEntry l d (termOf f))
   unfolding termRefusal termOrder21 termLimits22 termNames23
@@ -157,18 +123,18 @@ module _ {l acts : List ℕ} (d : Draft) (f : Fields) (D : Drafted l acts d) (F 
   unfolding actionOrder21
   ordered p e = let a = neither (not (followsGroup (d .group) 1 3)) _ e in (follows-in _ _ _ (not-false _ (a .0)), where-is p (a .1))
 
-  operand : (k label : ℕ) → labelBad (d .needs) (d .count) k label ≡ false → Operand (d .needs) (d .count) k label
+  operand : (k label : ℕ) → labelBad (d .tops) (d .count) k label ≡ false → Operand (d .tops) (d .count) k label
   unfolding labelBad
   operand k label e =
       let a = neither (leb (d .count) label) _ e in
       let below : label < d .count = leb-false _ _ (a .0) in
       let r = D .terms .table .room in
-      let low : needAt (d .needs) label ≤ k = ltb-false _ _ (a .1) in
-      record { below = below; earlier = omega (arith, low, need-in (d .needs) label (omega arith)) }
+      let low : topAt (d .tops) label ≤ k = ltb-false _ _ (a .1) in
+      record { below = below; earlier = omega (arith, low, top-in (d .tops) label (omega arith)) }
 
   action-small : SmallAction (actionOf f)
   unfolding actionOf
-  action-small = record { op = capped-small (num f 1); loc = F .small 2; x = F .small 3; y = F .small 4 }
+  action-small = record { op = up-to-255-small (num f 1); loc = F .small 2; x = F .small 3; y = F .small 4 }
 
   action-entered : (p k : ℕ) (a : Action) → p < 32 → k < 16
       → actionEntry acts d p k a ≡ held (lined 0 (withAction d p (k + 1) (closing (a .op)))) (set acts (p * 16 + k) (packAction a))

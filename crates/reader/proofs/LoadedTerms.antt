@@ -29,20 +29,20 @@ kind-new : {l : List ℕ} {c : ℕ} {m : List ℕ} (x : Term) → Grows l c m (c
 kind-new {l} {c} {m} x G D =
     sym (kind-means m (c + 1) (termAt m c)) ∙ ap kindOf (sym (tree-at (G .sound) (G .long) c (omega arith)) ∙ D .is) ∙ kind-means l c x
 
--- need is what the new term asks to be bound
-pub next-term : {l : List ℕ} {c : ℕ} {m needs : List ℕ} → Terms l c needs → (x : Term) → (x .kind ≡ 7 → ⊥) → c < 512
-    → Grows l c m (c + 1) → Den m (c + 1) c (means l c x) → (need : ℕ) → need ≡ topmost (means l c x) → Terms m (c + 1) (set needs c need)
-next-term {l} {c} {m} {needs} T x seven room G D need e = record {
+-- top is what the new term asks to be bound
+pub next-term : {l : List ℕ} {c : ℕ} {m tops : List ℕ} → Terms l c tops → (x : Term) → (x .kind ≡ 7 → ⊥) → c < 512
+    → Grows l c m (c + 1) → Den m (c + 1) c (means l c x) → (top : ℕ) → top ≡ topmost (means l c x) → Terms m (c + 1) (set tops c top)
+next-term {l} {c} {m} {tops} T x seven room G D top e = record {
   long = G .long;
   table = G .sound;
   nonces = λ i h g. below-or (λ j. 3 ≤ j → termAt m j .kind ≡ 7 → ⊥) c
       (λ j k q r. T .nonces j q k (ap (λ (n : ℕ). termIn n .kind) (sym (term-grows G j k)) ∙ r))
       (λ q r. seven (sym (kind-new x G D) ∙ r))
       i g h;
-  wide = length-set needs c need ∙ T .wide;
-  right = below-or (λ i. getD (set needs c need) i 0 ≡ topmost (treeOf m (c + 1) i)) c
-      (λ i h. getD-set-other needs c i need 0 (omega arith) ∙ T .right i h ∙ ap topmost (sym (tree-grows G i h)))
-      (getD-set-same needs c need 0 (omega (arith, T .wide)) ∙ e ∙ ap topmost (sym (D .is)));
+  wide = length-set tops c top ∙ T .wide;
+  right = below-or (λ i. getD (set tops c top) i 0 ≡ topmost (treeOf m (c + 1) i)) c
+      (λ i h. getD-set-other tops c i top 0 (omega arith) ∙ T .right i h ∙ ap topmost (sym (tree-grows G i h)))
+      (getD-set-same tops c top 0 (omega (arith, T .wide)) ∙ e ∙ ap topmost (sym (D .is)));
 }
 
 -- the fixed terms alone ask nothing

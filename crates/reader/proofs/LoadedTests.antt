@@ -34,17 +34,17 @@ follows-in g a b e = by (ltb g a) refl e
     by true q h = let z : _≡_ {A = ℕ} 0 1 = cc in absurd (omega arith)
     by false q h = (ltb-false g a q, leb-true g b h)
 
-pub capped-le : (v : ℕ) → upTo255 v ≤ v
+pub up-to-255-le : (v : ℕ) → upTo255 v ≤ v
 unfolding upTo255
-capped-le v = by (ltb v 255) refl
+up-to-255-le v = by (ltb v 255) refl
   where
     by : (t : Bool) → ltb v 255 ≡ t → pick t v 255 ≤ v
     by true e = omega arith
     by false e = ltb-false v 255 e
 
-pub capped-small : (v : ℕ) → upTo255 v < 256
+pub up-to-255-small : (v : ℕ) → upTo255 v < 256
 unfolding upTo255
-capped-small v = by (ltb v 255) refl
+up-to-255-small v = by (ltb v 255) refl
   where
     by : (t : Bool) → ltb v 255 ≡ t → pick t v 255 < 256
     by true e = omega (arith, ltb-true v 255 e)

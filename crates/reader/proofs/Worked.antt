@@ -6,19 +6,22 @@ use mathlib.Core.List.{List, [], _∷_, _++_}
 use Rattle.lines.specs.Base.{Refusal, refusal}
 use Rattle.lines.specs.Line.{linesOf, cutLine, span, noLF}
 use Rattle.lines.specs.Field as F
+use Rattle.terms.specs.Base.{largerOf}
 use Rattle.terms.specs.Term.{shapeOf, inLimits, partsBelow, afterParts}
 use Rattle.terms.specs.Line.{packed, termIn, depthIn, groundIn}
-use Rattle.terms.specs.Grade.{gradeOf, aboveLine, aboveBoth, deeperOf}
+use Rattle.terms.specs.Grade.{gradeOf, aboveLine, aboveBoth}
 use Rattle.terms.specs.Table.{fixedLine, freshTable, addTo, findIn, findLine, findTerm, freeOf}
-use Rattle.model.specs.Records.{packAction, actionIn, packMachine, machineIn, packLocation, locationIn, packThread, threadIn, actionAt, lengthAt, locationAt}
-use Rattle.model.specs.Fields.{locOf, usesX, usesY, closing, locInForm, unusedZero, inForm, isMemory, isRegister, kindFits}
+use Rattle.model.specs.Records.{packAction, actionIn, packMachine, machineIn, packLocation, locationIn, packThread, threadIn, actionNumber, actionAt, lengthAt, locationAt}
+use Rattle.model.specs.Fields.{locOf, namesLocation, usesX, usesY, closing, locInForm, unusedZero, inForm, isMemory, isRegister, kindFits}
 use Rattle.model.specs.First.{firstFrom}
-use Rattle.audit.specs.Each.{allFrom}
-use Rattle.audit.specs.Programs.{numberOf, equalActions, equalPrograms, newProgram}
+use Rattle.terms.specs.Each.{allFrom}
+use Rattle.audit.specs.Models.{namesProgram}
+use Rattle.audit.specs.Tops.{pastOf, topAt, topOf}
+use Rattle.audit.specs.Programs.{equalActions, equalPrograms, newProgram}
 use Rattle.reader.specs.Numbers.{noFields, badFields, fieldsWith, fieldsIn, fieldsOf, areFields, upTo255}
 use Rattle.reader.specs.Drafts.{noClaim, freshDraft, followsGroup, withEdition, withTerm, withAction, withMachine, withLocation, withThread, withClaim}
 use Rattle.reader.specs.VLine.{knownEdition, versionOrder21, versionRefusal, versionLine}
-use Rattle.reader.specs.ELine.{needAt, pastOf, largerOf, needOf, termOf, termOrder21, termLimits22, codePast, termNames23, termTwice24, termKind25, termRefusal, termCounted, termEntry, termLine}
+use Rattle.reader.specs.ELine.{termOf, termOrder21, termLimits22, termNames23, termTwice24, termKind25, termRefusal, termCounted, termEntry, termLine}
 use Rattle.reader.specs.ALine.{actionOf, actionOrder21, actionLimits22, locationPast, labelBad, actionNames23, actionRefusal, actionCounted, actionEntry, actionLine}
 use Rattle.reader.specs.MLine.{machineOrder21, machineLimits22, machineNames23, machineRefusal, machineOf, machineEntry, machineLine}
 use Rattle.reader.specs.LLine.{locationOrder21, locationLimits22, locationNames23, locationKind25, locationRefusal, locationOf, locationEntry, locationLine}
@@ -105,5 +108,5 @@ verdicts =
 -- program and no location (23)
 near-misses : verdicts
     ≡ refusal 21 1 ∷ refusal 21 1 ∷ refusal 20 1 ∷ refusal 24 2 ∷ refusal 22 2 ∷ refusal 23 2 ∷ refusal 21 7 ∷ refusal 23 2 ∷ refusal 23 4 ∷ []
-unfolding verdicts verdict loadOf refusedWith modelOf noModel secondReading programsReading programsFrom programReading withinFrom actionSecond programTwice24 lineOfLabel firstBadCode firstFrom firstReading readFrom wholeRead nextLine oneLine versionLine versionRefusal versionOrder21 knownEdition termLine termEntry termCounted termRefusal termKind25 termTwice24 termNames23 codePast termLimits22 termOrder21 termOf needOf largerOf pastOf needAt actionLine actionEntry actionCounted actionRefusal actionNames23 labelBad locationPast actionLimits22 actionOrder21 actionOf machineLine machineEntry machineOf machineRefusal machineNames23 machineLimits22 machineOrder21 locationLine locationEntry locationOf locationRefusal locationKind25 locationNames23 locationLimits22 locationOrder21 threadLine threadEntry threadOf threadRefusal threadNames23 claimLine claimOf claimRefusal claimNames23 pathNames23 claimForm20 withEdition withTerm withAction withMachine withLocation withThread withClaim followsGroup freshDraft noClaim fieldsOf fieldsIn fieldsWith badFields noFields areFields upTo255 newProgram equalPrograms equalActions numberOf allFrom kindFits isRegister isMemory inForm unusedZero locInForm closing usesY usesX locOf locationAt lengthAt actionAt threadIn packThread locationIn packLocation machineIn packMachine actionIn packAction freshTable fixedLine addTo afterParts findTerm findLine findIn freeOf gradeOf aboveBoth aboveLine deeperOf groundIn depthIn termIn packed partsBelow inLimits shapeOf linesOf cutLine span noLF F.fieldOf F.numberOf F.numberFrom F.wellSpelt F.isDigit
+unfolding verdicts verdict loadOf refusedWith modelOf noModel secondReading programsReading programsFrom programReading withinFrom actionSecond programTwice24 lineOfLabel firstBadCode firstFrom firstReading readFrom wholeRead nextLine oneLine versionLine versionRefusal versionOrder21 knownEdition termLine termEntry termCounted termRefusal termKind25 termTwice24 termNames23 namesProgram termLimits22 termOrder21 termOf topOf pastOf topAt actionLine actionEntry actionCounted actionRefusal actionNames23 labelBad locationPast actionLimits22 actionOrder21 actionOf machineLine machineEntry machineOf machineRefusal machineNames23 machineLimits22 machineOrder21 locationLine locationEntry locationOf locationRefusal locationKind25 locationNames23 locationLimits22 locationOrder21 threadLine threadEntry threadOf threadRefusal threadNames23 claimLine claimOf claimRefusal claimNames23 pathNames23 claimForm20 withEdition withTerm withAction withMachine withLocation withThread withClaim followsGroup freshDraft noClaim fieldsOf fieldsIn fieldsWith badFields noFields areFields upTo255 newProgram equalPrograms equalActions actionNumber allFrom kindFits isRegister isMemory inForm unusedZero locInForm closing usesY usesX namesLocation locOf locationAt lengthAt actionAt threadIn packThread locationIn packLocation machineIn packMachine actionIn packAction freshTable fixedLine addTo afterParts findTerm findLine findIn freeOf gradeOf aboveBoth aboveLine largerOf groundIn depthIn termIn packed partsBelow inLimits shapeOf linesOf cutLine span noLF F.fieldOf F.numberOf F.numberFrom F.wellSpelt F.isDigit
 near-misses = refl

@@ -4,15 +4,13 @@ use mathlib.Core.Bool.{Bool, true, false, not}
 use mathlib.Core.List.{List}
 use lib.ListN.{set}
 use lib.Dec.{eqb, ltb, leb}
-use Rattle.terms.specs.Base.{pick, Held, held}
+use Rattle.terms.specs.Base.{pick, also, Held, held}
 use Rattle.model.specs.Records.{action, packAction, lengthAt}
-use Rattle.model.specs.Fields.{either, locOf, closing, inForm}
+use Rattle.model.specs.Fields.{either, namesLocation, closing, inForm}
 use Rattle.model.specs.declared.records.Action.{Action}
-use Rattle.model.specs.declared.fields.Loc.{Loc}
-use Rattle.model.specs.declared.fields.Loc.the-variants.{Any, Memory, Register, Function, Unused}
+use Rattle.audit.specs.Tops.{topAt}
 use Rattle.reader.specs.Numbers.{areFields, num, upTo255}
 use Rattle.reader.specs.Drafts.{lined, followsGroup, withAction}
-use Rattle.reader.specs.ELine.{needAt}
 use Rattle.reader.specs.declared.fields.Fields.{Fields}
 use Rattle.reader.specs.declared.draft.Draft.{Draft}
 use Rattle.reader.specs.declared.draft.Lined.{Lined}
@@ -33,31 +31,24 @@ unfoldable pub actionLimits22 : ℕ → ℕ → Action → Bool
 actionLimits22 program k a = either (leb 32 program) (either (leb 16 k) (not (inForm a)))
 
 -- the op names a location, and not one of the first so many
-abbrev pub pastBy : Loc → ℕ → ℕ → Bool
-pastBy Any loc locations = leb locations loc
-pastBy Memory loc locations = leb locations loc
-pastBy Register loc locations = leb locations loc
-pastBy Function loc locations = false
-pastBy Unused loc locations = false
-
 unfoldable pub locationPast : Action → ℕ → Bool
-locationPast a locations = pastBy (locOf (a .op)) (a .loc) locations
+locationPast a locations = also (namesLocation (a .op)) (leb locations (a .loc))
 
 -- a label that is not listed, or "a variable of the same or a later action", which is number k
 unfoldable pub labelBad : List ℕ → ℕ → ℕ → ℕ → Bool
-labelBad needs count k label = either (leb count label) (ltb k (needAt needs label))
+labelBad tops count k label = either (leb count label) (ltb k (topAt tops label))
 
 -- an unused x or y is 0 here, a label that is always listed and asks for no variable
 unfoldable pub actionNames23 : List ℕ → ℕ → ℕ → Action → Bool
-actionNames23 needs count k a =
-    either (locationPast a 32) (either (labelBad needs count k (a .x)) (labelBad needs count k (a .y)))
+actionNames23 tops count k a =
+    either (locationPast a 32) (either (labelBad tops count k (a .x)) (labelBad tops count k (a .y)))
 
 unfoldable pub actionRefusal : Draft → Fields → ℕ → ℕ → Action → ℕ
 actionRefusal d f program k a =
     pick (not (areFields f 5)) 20
     (pick (actionOrder21 (d .group) (d .programs) (d .closed) program) 21
     (pick (actionLimits22 program k a) 22
-    (pick (actionNames23 (d .needs) (d .count) k a) 23
+    (pick (actionNames23 (d .tops) (d .count) k a) 23
     0)))
 
 -- a program is below 32 here

@@ -1,51 +1,26 @@
 -- "E label kind a b (labels from 3 rising)": one more term of the table.
-use Prim.Native.Nat.{ℕ, _+_}
+use Prim.Native.Nat.{ℕ}
 use mathlib.Core.Bool.{Bool, true, false, not}
 use mathlib.Core.List.{List}
-use lib.ListN.{getD}
 use lib.Dec.{eqb, ltb, leb}
-use Rattle.terms.specs.Base.{pick, also, Held, held}
-use Rattle.terms.specs.Term.{term, shapeOf, inLimits, partsBelow}
+use Rattle.terms.specs.Base.{pick, Held, held}
+use Rattle.terms.specs.Term.{term, inLimits, partsBelow}
 use Rattle.terms.specs.Grade.{gradeOf}
 use Rattle.terms.specs.Table.{findTerm, addTo}
 use Rattle.terms.specs.declared.term.Term.{Term}
-use Rattle.terms.specs.declared.term.Shape.{Shape}
-use Rattle.terms.specs.declared.term.Shape.the-variants.{Bare, Number, Variable, Sealed, Hashed, Applied, Joined, Unknown}
 use Rattle.terms.specs.declared.table.Added.{Added}
 use Rattle.terms.specs.declared.table.Outcome.{Outcome}
 use Rattle.terms.specs.declared.table.Outcome.the-variants.{Listed, New, Deep, Full}
 use Rattle.terms.specs.declared.table.Found.{Found}
 use Rattle.terms.specs.declared.table.Found.the-variants.{At, Nothing}
 use Rattle.model.specs.Fields.{either}
+use Rattle.audit.specs.Models.{namesProgram}
+use Rattle.audit.specs.Tops.{topOf}
 use Rattle.reader.specs.Numbers.{areFields, num, upTo255}
 use Rattle.reader.specs.Drafts.{lined, followsGroup, withTerm}
 use Rattle.reader.specs.declared.fields.Fields.{Fields}
 use Rattle.reader.specs.declared.draft.Draft.{Draft}
 use Rattle.reader.specs.declared.draft.Lined.{Lined}
-
--- how many variables a term asks to be bound: one more than its highest, at any depth, and 0 for a ground term
-unfoldable pub needAt : List ℕ → ℕ → ℕ
-needAt ns label = pick (ltb label 512) (getD ns label 0) 0
-
-unfoldable pub pastOf : ℕ → ℕ
-pastOf a = pick (ltb a 16) (a + 1) 0
-
-unfoldable pub largerOf : ℕ → ℕ → ℕ
-largerOf m n = pick (ltb m n) n m
-
-abbrev pub needBy : Shape → List ℕ → ℕ → ℕ → ℕ
-needBy Bare ns a b = 0
-needBy Number ns a b = 0
-needBy Variable ns a b = pastOf a
-needBy Sealed ns a b = needAt ns a
-needBy Hashed ns a b = needAt ns a
-needBy Applied ns a b = needAt ns b
-needBy Joined ns a b = largerOf (needAt ns a) (needAt ns b)
-needBy Unknown ns a b = 0
-
--- of a new term, by those of its parts
-unfoldable pub needOf : List ℕ → Term → ℕ
-needOf ns x = needBy (shapeOf (x .kind)) ns (x .a) (x .b)
 
 unfoldable pub termOf : Fields → Term
 termOf f = term (upTo255 (num f 1)) (num f 2) (num f 3)
@@ -58,13 +33,9 @@ termOrder21 group count label = either (not (followsGroup group 1 2)) (not (eqb 
 unfoldable pub termLimits22 : List ℕ → ℕ → Term → Bool
 termLimits22 l label x = either (leb 512 label) (either (not (inLimits x)) (ltb 16 (gradeOf l x .depth)))
 
--- the code of a program that is not below a number of programs
-unfoldable pub codePast : Term → ℕ → Bool
-codePast x programs = also (eqb (x .kind) 8) (leb programs (x .a))
-
--- "a part not earlier, a reference past its limit .. is 23"
+-- "a part not earlier, a reference past its limit .. is 23": code of a program past the 32
 unfoldable pub termNames23 : ℕ → Term → Bool
-termNames23 label x = either (not (partsBelow x label)) (codePast x 32)
+termNames23 label x = either (not (partsBelow x label)) (not (namesProgram x 32))
 
 abbrev pub isAt : Found → Bool
 isAt (At i) = true
@@ -90,7 +61,7 @@ termRefusal l group count f x =
 
 -- a table has 512 lines
 unfoldable pub termCounted : Draft → ℕ → Term → Draft
-termCounted d label x = pick (leb 512 label) d (withTerm d label (needOf (d .needs) x))
+termCounted d label x = pick (leb 512 label) d (withTerm d label (topOf (d .tops) x))
 
 -- the rules of 22 and 24 leave no other outcome than a new term
 abbrev pub enteredBy : Outcome → Draft → Term → Lined

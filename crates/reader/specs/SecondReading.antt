@@ -11,8 +11,8 @@ use Rattle.model.specs.Records.{actionAt, lengthAt, locationAt}
 use Rattle.model.specs.Fields.{kindFits}
 use Rattle.model.specs.First.{firstFrom}
 use Rattle.model.specs.declared.records.Action.{Action}
+use Rattle.audit.specs.Models.{namesProgram}
 use Rattle.audit.specs.Programs.{newProgram}
-use Rattle.reader.specs.ELine.{codePast}
 use Rattle.reader.specs.ALine.{locationPast}
 use Rattle.reader.specs.declared.draft.Draft.{Draft}
 use Rattle.reader.specs.declared.second.Refusal.{Refusal}
@@ -23,7 +23,7 @@ refusal n line = record { number = n; line = line }
 
 -- the first label that is the code of a program not listed; the count where there is none
 unfoldable pub firstBadCode : List ℕ → ℕ → ℕ → ℕ
-firstBadCode l count programs = firstFrom count 0 (λ i. codePast (termAt l i) programs)
+firstBadCode l count programs = firstFrom count 0 (λ i. not (namesProgram (termAt l i) programs))
 
 -- E lines stand from line 2 on, label 3 first, and A lines right after them
 unfoldable pub lineOfLabel : ℕ → ℕ

@@ -5,12 +5,11 @@ use crate::draft::accept;
 use crate::draft::follows;
 use crate::draft::refuse;
 use crate::fields::Fields;
-use crate::fields::capped;
-use crate::need::need_at;
-use model::fields::Loc;
+use crate::fields::up_to_255;
+use audit::tops::top_at;
 use model::fields::closes;
 use model::fields::in_form;
-use model::fields::loc_of;
+use model::fields::names_location;
 use model::records::Action;
 use model::records::Model;
 use model::records::length_at;
@@ -24,7 +23,7 @@ pub fn action_line(actions: &mut [u64; 512], d: Draft, f: Fields) -> Lined
     ensures { λ r. ⌜ held r (now (actions .exit)) ≡ actionLine (now (actions .entry)) d f ⌝ }
 {
     let v = f.values;
-    let program = capped(v[0]);
+    let program = up_to_255(v[0]);
     // the actions that the program has so far number the one of this line
     let k = length_at(&d.lengths, program);
     action_next(actions, d, f, program, k)
@@ -47,7 +46,7 @@ fn action_of(f: Fields) -> Action
 {
     let v = f.values;
     Action {
-        op: capped(v[1]),
+        op: up_to_255(v[1]),
         loc: v[2],
         x: v[3],
         y: v[4],
@@ -66,7 +65,7 @@ fn action_refusal(d: Draft, f: Fields, program: u8, k: u8, a: Action) -> u8
     if action_limits22(program, k, a) {
         return 22;
     }
-    if action_names23(&d.needs, d.count, k, a) {
+    if action_names23(&d.tops, d.count, k, a) {
         return 23;
     }
     0
@@ -103,39 +102,36 @@ fn action_limits22(program: u8, k: u8, a: Action) -> bool
 
 // A location past the limit, a label that is not listed, a variable of this action or of a later one. An unused x or
 // y is 0 here, a label that is always listed and asks for no variable.
-fn action_names23(needs: &[u8; 512], count: u16, k: u8, a: Action) -> bool
-    ensures { λ r. ⌜ r ≡ actionNames23 (now (needs .entry)) count k a ⌝ }
+fn action_names23(tops: &[u8; 512], count: u16, k: u8, a: Action) -> bool
+    ensures { λ r. ⌜ r ≡ actionNames23 (now (tops .entry)) count k a ⌝ }
 {
     if location_past(a, Model::LOCATIONS) {
         return true;
     }
-    if label_bad(needs, count, k, a.x) {
+    if label_bad(tops, count, k, a.x) {
         return true;
     }
-    label_bad(needs, count, k, a.y)
+    label_bad(tops, count, k, a.y)
 }
 
 // A location that is not below a number of locations.
 pub fn location_past(a: Action, locations: u8) -> bool
     ensures { λ r. ⌜ r ≡ locationPast a locations ⌝ }
 {
-    let l = loc_of(a.op);
-    match l {
-        Loc::Any => locations as u16 <= a.loc,
-        Loc::Memory => locations as u16 <= a.loc,
-        Loc::Register => locations as u16 <= a.loc,
-        Loc::Function => false,
-        Loc::Unused => false,
+    if names_location(a.op) {
+        locations as u16 <= a.loc
+    } else {
+        false
     }
 }
 
-fn label_bad(needs: &[u8; 512], count: u16, k: u8, label: u16) -> bool
-    ensures { λ r. ⌜ r ≡ labelBad (now (needs .entry)) count k label ⌝ }
+fn label_bad(tops: &[u8; 512], count: u16, k: u8, label: u16) -> bool
+    ensures { λ r. ⌜ r ≡ labelBad (now (tops .entry)) count k label ⌝ }
 {
     if count <= label {
         return true;
     }
-    k < need_at(needs, label)
+    k < top_at(tops, label)
 }
 
 // The rules of 22 leave no other case than the last.

@@ -5,7 +5,7 @@ use crate::draft::accept;
 use crate::draft::follows;
 use crate::draft::refuse;
 use crate::fields::Fields;
-use crate::fields::capped;
+use crate::fields::up_to_255;
 use model::records::Claim;
 ghost use mathlib.Core.Path.{_≡_};
 ghost use Prim.Native.Nat.{_-_};
@@ -89,12 +89,17 @@ fn claim_of(f: Fields) -> Claim
     ensures { λ r. ⌜ r ≡ claimOf f ⌝ }
 {
     let v = f.values;
-    let path = [capped(v[3]), capped(v[4]), capped(v[5]), capped(v[6])];
+    let path = [
+        up_to_255(v[3]),
+        up_to_255(v[4]),
+        up_to_255(v[5]),
+        up_to_255(v[6]),
+    ];
     let length = path_length(f.count);
     Claim {
-        kind: capped(v[0]),
-        program: capped(v[1]),
-        machine: capped(v[2]),
+        kind: up_to_255(v[0]),
+        program: up_to_255(v[1]),
+        machine: up_to_255(v[2]),
         path,
         length,
     }

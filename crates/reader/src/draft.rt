@@ -12,7 +12,7 @@ pub struct Draft {
     pub edition: u8,
     // how many terms the table holds, and how many variables each asks to be bound
     pub count: u16,
-    pub needs: [u8; 512],
+    pub tops: [u8; 512],
     // how many actions each program has
     pub lengths: [u8; 32],
     pub programs: u8,
@@ -57,7 +57,7 @@ impl Draft {
             group: 0,
             edition: 0,
             count: Table::FIXED,
-            needs: [0; 512],
+            tops: [0; 512],
             lengths: [0; 32],
             programs: 0,
             closed: false,

@@ -1,5 +1,6 @@
 // The numbers of one line. The reader of a field is handed the rest of the line, and the rest after its tab goes to
 // the next one.
+use lines::codes::Code;
 use lines::field::Field;
 use lines::field::byte_at;
 use lines::field::read_field;
@@ -18,8 +19,8 @@ pub struct Fields {
 impl Fields {
     // A claim with the longest path has this many numbers, and no record has more.
     pub const MOST: u8 = 7;
-    // A number in the file is at most this.
-    pub const NUMBER: u32 = 65535;
+    // A number in the file is at most this, as a code in an R line is.
+    pub const NUMBER: u32 = Code::MOST;
 
     fn none() -> Fields
         ensures { λ r. ⌜ r ≡ noFields ⌝ }
@@ -93,7 +94,7 @@ pub fn fields_of(line: &[u8]) -> Fields
 }
 
 // A number where only those below 255 have a meaning: 255 stands for every larger one too.
-pub fn capped(v: u16) -> u8
+pub fn up_to_255(v: u16) -> u8
     ensures { λ r. ⌜ r ≡ upTo255 v ⌝ }
 {
     if v < 255 { v as u8 } else { 255 }

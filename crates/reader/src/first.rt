@@ -15,6 +15,7 @@ use lines::field::byte_at;
 use lines::field::cut_line;
 use lines::field::front_of;
 use lines::field::rest_of;
+use lines::tail::Tail;
 use lines::tail::width;
 ghost use mathlib.Core.Path.{_≡_};
 ghost use Rattle.reader.specs.FirstReading.{kept, oneLine, nextLine, readAnswer, wholeRead, firstReading};
@@ -28,7 +29,7 @@ pub struct Read {
 
 impl Read {
     // A file has at most this many bytes.
-    pub const BYTES: usize = 65536;
+    pub const BYTES: usize = Tail::BYTES;
 }
 
 // One line, without its LF, by its record letter.

@@ -2,7 +2,6 @@
 //
 //   fields   the numbers of one line
 //   draft    what the lines read so far have told, beside the two lent tables
-//   need     how many variables a term asks to be bound
 //   version, term, action, machines, location, thread, claim
 //            the records V, E, A, M, L, T, C: the rules of refusal in the order of their numbers, then the entry
 //   first    the first reading, line after line
@@ -27,7 +26,6 @@ pub mod fields;
 pub mod first;
 pub mod location;
 pub mod machines;
-pub mod need;
 pub mod second;
 pub mod term;
 pub mod thread;

@@ -5,12 +5,12 @@ use crate::draft::accept;
 use crate::draft::follows;
 use crate::draft::refuse;
 use crate::fields::Fields;
-use crate::fields::capped;
+use crate::fields::up_to_255;
 use model::fields::is_register;
 use model::records::Location;
 use model::records::Model;
 use model::records::pack_location;
-use terms::line::is_ground;
+use terms::line::ground_at;
 ghost use mathlib.Core.Path.{_≡_};
 ghost use Rattle.reader.specs.LLine.{locationOrder21, locationLimits22, locationNames23, locationKind25, locationRefusal, locationOf, locationEntry, locationLine};
 
@@ -40,7 +40,7 @@ fn location_refusal(t: &[u64; 512], d: Draft, f: Fields) -> u8
     if location_names23(d.machine_count, d.count, v[1], v[3]) {
         return 23;
     }
-    if location_kind25(t, capped(v[2]), v[3]) {
+    if location_kind25(t, up_to_255(v[2]), v[3]) {
         return 25;
     }
     0
@@ -78,7 +78,7 @@ fn location_names23(machines: u8, count: u16, machine: u16, value: u16) -> bool
 fn location_kind25(t: &[u64; 512], kind: u8, value: u16) -> bool
     ensures { λ r. ⌜ r ≡ locationKind25 (now (t .entry)) kind value ⌝ }
 {
-    if !is_ground(t, value) {
+    if !ground_at(t, value) {
         return true;
     }
     if is_register(kind) { value != 1 } else { false }
@@ -89,23 +89,22 @@ fn location_of(f: Fields) -> Location
 {
     let v = f.values;
     Location {
-        machine: capped(v[1]),
-        kind: capped(v[2]),
+        machine: up_to_255(v[1]),
+        kind: up_to_255(v[2]),
         value: v[3],
     }
 }
 
 // The rules of 22 leave no other case than the last.
-fn location_entry(d: Draft, l: Location) -> Lined
+fn location_entry(mut d: Draft, l: Location) -> Lined
     ensures { λ r. ⌜ r ≡ locationEntry d l ⌝ }
 {
     let i = d.location_count as usize;
     if 32 <= i {
         return refuse(22, d);
     }
-    let mut e = d;
-    e.locations[i] = pack_location(l);
-    e.location_count = d.location_count + 1;
-    e.group = Draft::L;
-    accept(e)
+    d.locations[i] = pack_location(l);
+    d.location_count += 1;
+    d.group = Draft::L;
+    accept(d)
 }

@@ -5,7 +5,7 @@ use crate::draft::accept;
 use crate::draft::follows;
 use crate::draft::refuse;
 use crate::fields::Fields;
-use crate::fields::capped;
+use crate::fields::up_to_255;
 use model::records::Machine;
 use model::records::Model;
 use model::records::pack_machine;
@@ -74,23 +74,22 @@ fn machine_of(f: Fields) -> Machine
 {
     let v = f.values;
     Machine {
-        boot: capped(v[1]),
-        launch: capped(v[2]),
+        boot: up_to_255(v[1]),
+        launch: up_to_255(v[2]),
         protected: v[3] == 1,
     }
 }
 
 // The rules of 22 leave no other case than the last.
-fn machine_entry(d: Draft, m: Machine) -> Lined
+fn machine_entry(mut d: Draft, m: Machine) -> Lined
     ensures { λ r. ⌜ r ≡ machineEntry d m ⌝ }
 {
     let i = d.machine_count as usize;
     if 4 <= i {
         return refuse(22, d);
     }
-    let mut e = d;
-    e.machines[i] = pack_machine(m);
-    e.machine_count = d.machine_count + 1;
-    e.group = Draft::M;
-    accept(e)
+    d.machines[i] = pack_machine(m);
+    d.machine_count += 1;
+    d.group = Draft::M;
+    accept(d)
 }

@@ -2,7 +2,7 @@
 // (24, at the later one's last action), the kinds of the locations (25); by line, then by number.
 use crate::action::location_past;
 use crate::draft::Draft;
-use crate::term::names_code_past;
+use audit::models::names_program;
 use audit::programs::new_program;
 use model::fields::kind_fits;
 use model::records::action_at;
@@ -61,7 +61,7 @@ fn first_bad_code(lines: &[u64; 512], count: u16, programs: u8) -> u16
 {
     let mut i = 0;
     while i < count {
-        if names_code_past(term_at(lines, i), programs) {
+        if !names_program(term_at(lines, i), programs) {
             return i;
         }
         i += 1;

@@ -5,21 +5,22 @@ use crate::draft::accept;
 use crate::draft::follows;
 use crate::draft::refuse;
 use crate::fields::Fields;
-use crate::fields::capped;
-use crate::need::need_of;
+use crate::fields::up_to_255;
+use audit::models::names_program;
+use audit::tops::top_of;
 use model::records::Model;
+use terms::entry::add;
 use terms::grade::grade_of;
 use terms::table::Found;
 use terms::table::Outcome;
 use terms::table::Table;
-use terms::table::add;
 use terms::table::find;
 use terms::term::Term;
 use terms::term::in_limits;
 use terms::term::parts_below;
 ghost use mathlib.Core.Path.{_≡_};
 ghost use Rattle.terms.specs.Base.{held};
-ghost use Rattle.reader.specs.ELine.{termOf, termOrder21, termLimits22, codePast, termNames23, termTwice24, termKind25, termRefusal};
+ghost use Rattle.reader.specs.ELine.{termOf, termOrder21, termLimits22, termNames23, termTwice24, termKind25, termRefusal};
 ghost use Rattle.reader.specs.ELine.{termCounted, termEntry, termLine};
 
 pub fn term_line(t: &mut [u64; 512], d: Draft, f: Fields) -> Lined
@@ -38,7 +39,7 @@ fn term_of(f: Fields) -> Term
 {
     let v = f.values;
     Term {
-        kind: capped(v[1]),
+        kind: up_to_255(v[1]),
         a: v[2],
         b: v[3],
     }
@@ -101,17 +102,7 @@ fn term_names23(label: u16, x: Term) -> bool
     if !parts_below(x, label) {
         return true;
     }
-    names_code_past(x, Model::PROGRAMS)
-}
-
-// The code of a program that is not below a number of programs.
-pub fn names_code_past(x: Term, programs: u8) -> bool
-    ensures { λ r. ⌜ r ≡ codePast x programs ⌝ }
-{
-    if x.kind != 8 {
-        return false;
-    }
-    programs as u16 <= x.a
+    !names_program(x, Model::PROGRAMS)
 }
 
 fn term_twice24(t: &[u64; 512], count: u16, x: Term) -> bool
@@ -159,8 +150,8 @@ fn term_counted(mut d: Draft, label: u16, x: Term) -> Draft
     if 512 <= i {
         return d;
     }
-    let need = need_of(&d.needs, x);
-    d.needs[i] = need;
+    let top = top_of(&d.tops, x);
+    d.tops[i] = top;
     d.count = label + 1;
     d.group = Draft::E;
     d

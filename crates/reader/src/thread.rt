@@ -5,7 +5,7 @@ use crate::draft::accept;
 use crate::draft::follows;
 use crate::draft::refuse;
 use crate::fields::Fields;
-use crate::fields::capped;
+use crate::fields::up_to_255;
 use model::records::Listed;
 use model::records::Model;
 use model::records::pack_thread;
@@ -56,22 +56,21 @@ fn thread_of(f: Fields) -> Listed
     let v = f.values;
     Listed {
         agent: v[0],
-        machine: capped(v[1]),
-        program: capped(v[2]),
+        machine: up_to_255(v[1]),
+        program: up_to_255(v[2]),
     }
 }
 
 // The rule of 22 leaves no other case than the last.
-fn thread_entry(d: Draft, t: Listed) -> Lined
+fn thread_entry(mut d: Draft, t: Listed) -> Lined
     ensures { λ r. ⌜ r ≡ threadEntry d t ⌝ }
 {
     let i = d.thread_count as usize;
     if 8 <= i {
         return refuse(22, d);
     }
-    let mut e = d;
-    e.threads[i] = pack_thread(t);
-    e.thread_count = d.thread_count + 1;
-    e.group = Draft::T;
-    accept(e)
+    d.threads[i] = pack_thread(t);
+    d.thread_count += 1;
+    d.group = Draft::T;
+    accept(d)
 }

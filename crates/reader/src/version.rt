@@ -4,7 +4,7 @@ use crate::draft::Lined;
 use crate::draft::accept;
 use crate::draft::refuse;
 use crate::fields::Fields;
-use crate::fields::capped;
+use crate::fields::up_to_255;
 ghost use mathlib.Core.Path.{_≡_};
 ghost use Rattle.reader.specs.Drafts.{lined, withEdition};
 ghost use Rattle.reader.specs.VLine.{knownEdition, versionOrder21, versionRefusal, versionLine};
@@ -13,7 +13,7 @@ pub fn version_line(d: Draft, f: Fields) -> Lined
     ensures { λ r. ⌜ r ≡ versionLine d f ⌝ }
 {
     let v = f.values;
-    let edition = capped(v[0]);
+    let edition = up_to_255(v[0]);
     let n = version_refusal(d.group, f, edition);
     if n != 0 {
         return refuse(n, d);

@@ -6,7 +6,7 @@ use mathlib.Core.Bool.{Bool, true, false}
 use mathlib.Core.List.{List}
 use lib.ListN.{getD, drop, set}
 use lib.Dec.{eqb, ltb}
-use Rattle.terms.specs.Base.{pick}
+use Rattle.terms.specs.Base.{pick, filled}
 use Rattle.terms.specs.Promise.{Each, none, one}
 use Rattle.model.specs.Records.{locationIn}
 use Rattle.model.specs.declared.records.Action.{Action}
@@ -14,14 +14,14 @@ use Rattle.state.specs.Slot.{slotAt}
 use Rattle.state.specs.Code.{wayOf}
 use Rattle.state.specs.Each.{each2}
 use Rattle.state.specs.Early.{nextAction}
-use Rattle.state.specs.Moves.{isLast}
+use Rattle.state.specs.Moves.{withAt, isLast}
 use Rattle.state.specs.Launch.{isDynamic}
 use Rattle.state.specs.Reset.{isOn}
 use Rattle.state.specs.declared.slot.Slot.{Slot}
 use Rattle.state.specs.declared.code.Way.{Way}
 use Rattle.state.specs.declared.code.Way.the-variants as W
 use Rattle.state.specs.declared.control.Frame.{Frame}
-use Rattle.rules.specs.Effect.{withValue, stored, placeOf, withVar, filled, cleared, boundBy, bound}
+use Rattle.rules.specs.Effect.{stored, placeOf, withVar, cleared, boundBy, bound}
 use Rattle.rules.specs.Restart.{valueLaunched, valuesLaunched, resetValue, valueReset, valuesReset, varReset, eachSlot, varsReset}
 use Rattle.rules.specs.Made.{Layout, Config, jumpedOn, actedOn, launchedOn, resetOn, handedOn, advancedOn, madeBy, madeOn}
 
@@ -55,8 +55,8 @@ module _ {A B : Type 0} (P : A → B → Type 0) where
   each-filled zero i p e = e
   each-filled (suc n) i p e = each-filled n (i + 1) p (each-set i e p)
 
-  each-with-value : {l : List A} {r : List B} {v : A} {w : B} (loc : ℕ) → Each P l r → P v w → Each P (withValue l loc v) (withValue r loc w)
-  unfolding withValue
+  each-with-value : {l : List A} {r : List B} {v : A} {w : B} (loc : ℕ) → Each P l r → P v w → Each P (withAt l loc v) (withAt r loc w)
+  unfolding withAt
   each-with-value loc e p = pick-list (ltb loc 32) (each-set loc e p) e
 
   pub each-stored : {l : List A} {r : List B} {x u : A} {y w : B} (a : Action) → Each P l r → P x y → P u w → Each P (stored l a x u) (stored r a y w)

@@ -19,8 +19,7 @@ use Rattle.model.specs.declared.records.Action.{Action}
 use Rattle.state.specs.Code.{wayOf}
 use Rattle.state.specs.Slot.{slotAt}
 use Rattle.state.specs.Control.{valueAt}
-use Rattle.state.specs.Early.{nextAction, earlyOf}
-use Rattle.state.specs.Seek.{sightOf}
+use Rattle.state.specs.Early.{sightOf, nextAction, earlyOf}
 use Rattle.state.specs.declared.code.Way.{Way}
 use Rattle.state.specs.declared.code.Way.the-variants as W
 use Rattle.state.specs.declared.control.Control.{Control}

@@ -3,17 +3,19 @@ use Prim.Native.Nat.{ℕ, zero, suc, _+_, _-_, _*_, _/_, _<_, _≤_}
 use mathlib.Core.Bool.{Bool, true, false}
 use mathlib.Core.List.{List, [], _∷_, _++_, append-nil, append-assoc}
 use mathlib.Core.Path.{_≡_, refl, ap, _∙_}
-use native.Mathlib.Numerals.{add-one, sub-one}
-use native.Mathlib.Nat.{sub-add-eq, sub-eq-zero-of-le}
+use native.Mathlib.Numerals.{add-one}
 use native.Mathlib.Omega.{arith}
 use lib.ListN.{length, getD, take, drop, set, length-set, drop-of-length-le}
 use lib.Seq.{sets, drop-cons, take-suc-set, drop-set-lt, take-all}
 use lib.Dec.{ltb}
-use Rattle.terms.specs.Base.{pick}
 use borrow.Author.Tests.{lt-ltb}
+use Rattle.terms.specs.Base.{pick, filled}
+use Rattle.terms.proofs.Laws.{fill-end}
+use Rattle.terms.proofs.Back.{fill-long}
 use Rattle.state.specs.Reset.{isOn}
-use Rattle.rules.specs.Effect.{placeOf, lastPlace, filled, cleared}
-use Rattle.rules.specs.Restart.{varReset, eachSlot, slotCleared}
+use Rattle.rules.specs.Effect.{placeOf, endPlace, cleared}
+use Rattle.rules.specs.Restart.{varReset, eachSlot}
+use Rattle.rules.specs.Parts.{slotCleared}
 
 -- numbers stored one after another
 module _ {A : Type 0} (l : List A) (i k : ℕ) (vs : List A) where
@@ -25,28 +27,14 @@ module _ {A : Type 0} (l : List A) (i k : ℕ) (vs : List A) where
   pub sets-end : length vs ≤ k → sets l (i + k) (drop k vs) ≡ l
   sets-end h = rw (drop-of-length-le vs h)
 
--- one value stored from a place on
-module _ {A : Type 0} (v : A) where
-  fill-step : (k i : ℕ) (l : List A) → 0 < k → filled v k i l ≡ filled v (k - 1) (i + 1) (set l i v)
-  unfolding filled
-  fill-step zero i l h = absurd (omega arith)
-  fill-step (suc k) i l h = rw sub-one
-
-  pub fill-more : (n i : ℕ) (l : List A) → i < n → filled v (n - i) i l ≡ filled v (n - (i + 1)) (i + 1) (set l i v)
-  fill-more n i l h = rw (sub-add-eq, fill-step (n - i) i l (omega arith))
-
-  pub fill-end : (n i : ℕ) (l : List A) → n ≤ i → filled v (n - i) i l ≡ l
-  unfolding filled
-  fill-end n i l h = rw sub-eq-zero-of-le
-
-  -- clearing a slot is filling up to its last place
-  pub cleared-start : (l : List A) (i : ℕ) → cleared v l i ≡ filled v (lastPlace i - placeOf i 0) (placeOf i 0) l
-  unfolding cleared lastPlace placeOf
-  cleared-start l i = go (ltb i 12) refl
-    where
-      go : (b : Bool) → ltb i 12 ≡ b → pick b (filled v 16 (i * 16 + 0) l) l ≡ filled v (pick b (i * 16 + 16) 0 - (i * 16 + 0)) (i * 16 + 0) l
-      go true e = let h : i * 16 + 16 - (i * 16 + 0) ≡ 16 = omega arith in rw h
-      go false e = rw (fill-end 0 (i * 16 + 0) l (omega arith))
+-- clearing a slot is filling up to its last place
+pub cleared-start : {A : Type 0} (v : A) (l : List A) (i : ℕ) → cleared v l i ≡ filled v (endPlace i - placeOf i 0) (placeOf i 0) l
+unfolding cleared endPlace placeOf
+cleared-start v l i = go (ltb i 12) refl
+  where
+    go : (b : Bool) → ltb i 12 ≡ b → pick b (filled v 16 (i * 16 + 0) l) l ≡ filled v (pick b (i * 16 + 16) 0 - (i * 16 + 0)) (i * 16 + 0) l
+    go true e = let h : i * 16 + 16 - (i * 16 + 0) ≡ 16 = omega arith in rw h
+    go false e = rw (fill-end v 0 (i * 16 + 0) l (omega arith))
 
 -- f of each variable and of its slot
 module _ {A : Type 0} (f : A → ℕ → A) (l : List A) (r : List ℕ) (i : ℕ) where
@@ -118,15 +106,10 @@ module _ {A : Type 0} (none : A) (m : ℕ) (r : List ℕ) (l : List A) (i : ℕ)
           let n : (i + 1) * 16 ≡ i * 16 + 16 = omega arith in
           rw n (all-kept (varReset none m) r none 16 (i * 16) l (omega arith) (λ k a b x. rw (at k a b, e)))
 
-filled-long : {A : Type 0} (v : A) (n i : ℕ) (l : List A) → length (filled v n i l) ≡ length l
-unfolding filled
-filled-long v zero i l = refl
-filled-long v (suc n) i l = filled-long v n (i + 1) (set l i v) ∙ length-set l i v
-
 pick-long : {A : Type 0} (b : Bool) (l k : List A) → length k ≡ length l → length (pick b k l) ≡ length l
 pick-long true l k e = e
 pick-long false l k e = refl
 
 pub cleared-long : {A : Type 0} (none : A) (m : ℕ) (l : List A) (i n : ℕ) → length (slotCleared none m l i n) ≡ length l
 unfolding slotCleared cleared
-cleared-long none m l i n = pick-long (isOn n m) l _ (pick-long (ltb i 12) l _ (filled-long none 16 (placeOf i 0) l))
+cleared-long none m l i n = pick-long (isOn n m) l _ (pick-long (ltb i 12) l _ (fill-long none 16 (placeOf i 0) l))

@@ -10,7 +10,7 @@ use Rattle.model.specs.declared.records.Action.{Action}
 use Rattle.state.specs.Slot.{slotAt}
 use Rattle.state.specs.Code.{wayOf}
 use Rattle.state.specs.Early.{nextAction}
-use Rattle.state.specs.Moves.{frameMoved}
+use Rattle.state.specs.Moves.{nonceAfter, frameMoved}
 use Rattle.state.specs.Launch.{frameLaunched}
 use Rattle.state.specs.Hand.{frameHanded}
 use Rattle.state.specs.Reset.{frameReset}
@@ -50,7 +50,7 @@ module _ (s : Control) (g : Layout) (l : Labels) where
       → control (madeBy w 0 1 2 g (configOf s) (l .x) (l .result) (l .program)) (l .count)
       ≡ controlWith (slotsBy w (s .frame .slots) (g .actions) (g .lengths) (g .machines) (s .frame .serial) (l .program))
       (restBy w (s .frame .slots) (restOf s) g l) (l .count)
-  unfolding advancedOn slotsAdvanced restAdvanced handedOn frameHanded slotsHanded restHanded resetOn frameReset restReset started
+  unfolding advancedOn slotsAdvanced restAdvanced handedOn frameHanded slotsHanded restHanded resetOn frameReset restReset moved nonceAfter started
   way-parts W.Nothing = refl
   way-parts (W.Advance i) = acted-parts i (slotAt (s .frame .slots) i) (nextAction (g .actions) (slotAt (s .frame .slots) i))
   way-parts (W.Hand i j) = refl

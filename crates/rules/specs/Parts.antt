@@ -13,7 +13,7 @@ use Rattle.state.specs.Control.{oneMore}
 use Rattle.state.specs.Early.{nextAction}
 use Rattle.state.specs.Moves.{withSlot, locked, movedOn, jumpedTo, nonceAfter}
 use Rattle.state.specs.Launch.{threadLaunched, locksLaunched}
-use Rattle.state.specs.Reset.{slotsBooted, locksReset}
+use Rattle.state.specs.Reset.{isOn, slotsBooted, locksReset}
 use Rattle.state.specs.declared.slot.Slot.{Slot}
 use Rattle.state.specs.declared.code.Way.{Way}
 use Rattle.state.specs.declared.code.Way.the-variants as W
@@ -107,11 +107,15 @@ restAdvanced slots r actions lengths locations i l = restFrom r actions lengths 
 -- the sender binds label 0, the receiver the value; counters and variables alone change
 unfoldable pub restHanded : List ℕ → Counters → List ℕ → List ℕ → ℕ → ℕ → ℕ → Held Counters
 restHanded slots c vars lengths i j x =
-    held (counters (oneMore (c .steps)) (c .serial) (c .nonce))
+    held (moved c 5)
     (bound 0 lengths (bound 0 lengths vars i (slotAt slots i) 0) j (slotAt slots j) x)
 
 abbrev pub restAfter : Rest → Held Counters → Rest
 restAfter r h = rest (h .out) (r .locks) (r .values) (h .table)
+
+-- the variables after a reset are made slot by slot: slot i, whose number is n, loses its own if its thread ended
+unfoldable pub slotCleared : {A : Type 0} → A → ℕ → List A → ℕ → ℕ → List A
+slotCleared none m vars i n = pick (isOn n m) (cleared none vars i) vars
 
 abbrev pub restReborn : List ℕ → Rest → Machine → List ℕ → ℕ → Rest
 restReborn slots r machine locations m =

@@ -9,7 +9,6 @@ use Rattle.model.specs.Records.{locationIn}
 use Rattle.state.specs.Each.{each2}
 use Rattle.state.specs.Launch.{isDynamic}
 use Rattle.state.specs.Reset.{isOn}
-use Rattle.rules.specs.Effect.{cleared}
 
 -- "Dynamic registers of that machine become dinit"
 unfoldable pub valueLaunched : {A : Type 0} → A → ℕ → A → ℕ → A
@@ -42,10 +41,6 @@ varReset none m v slot = pick (isOn slot m) none v
 unfoldable pub eachSlot : {A : Type 0} → (A → ℕ → A) → ℕ → List A → List ℕ → List A
 eachSlot f i [] slots = []
 eachSlot f i (v ∷ vs) slots = f v (getD slots (i / 16) 0) ∷ eachSlot f (i + 1) vs slots
-
--- the same slot by slot: slot i, whose number is n, loses its variables
-unfoldable pub slotCleared : {A : Type 0} → A → ℕ → List A → ℕ → ℕ → List A
-slotCleared none m vars i n = pick (isOn n m) (cleared none vars i) vars
 
 unfoldable pub varsReset : {A : Type 0} → A → List A → List ℕ → ℕ → List A
 varsReset none vars slots m = eachSlot (varReset none m) 0 vars slots

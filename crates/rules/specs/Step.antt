@@ -4,8 +4,7 @@ use Prim.Native.Nat.{ℕ}
 use mathlib.Core.List.{List}
 use lib.Dec.{eqb}
 use Rattle.terms.specs.Base.{pick, Held, held}
-use Rattle.state.specs.Early.{earlyOf}
-use Rattle.state.specs.Seek.{sightOf}
+use Rattle.state.specs.Early.{sightOf, earlyOf}
 use Rattle.state.specs.declared.control.Control.{Control}
 use Rattle.rules.specs.Work.{workOn}
 use Rattle.rules.specs.Happened.{happenedOn}

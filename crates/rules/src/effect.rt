@@ -5,7 +5,8 @@ use state::moves::is_last;
 use state::slot::Slot;
 ghost use mathlib.Core.Path.{_≡_};
 ghost use lib.ListN.{length};
-ghost use Rattle.rules.specs.Effect.{withValue, stored, placeOf, withVar, cleared, End, boundBy, bound};
+ghost use Rattle.state.specs.Moves.{withAt};
+ghost use Rattle.rules.specs.Effect.{stored, placeOf, withVar, cleared, End, boundBy, bound};
 
 // Write stores x, extend stores its chain.
 pub fn stored(values: &mut [u16; 32], a: Action, x: u16, r: u16)
@@ -20,7 +21,7 @@ pub fn stored(values: &mut [u16; 32], a: Action, x: u16, r: u16)
 }
 
 fn with_value(values: &mut [u16; 32], loc: u16, v: u16)
-    ensures { λ _. ⌜ now (values .exit) ≡ withValue (now (values .entry)) loc v ⌝ }
+    ensures { λ _. ⌜ now (values .exit) ≡ withAt (now (values .entry)) loc v ⌝ }
 {
     let i = loc as usize;
     if i < 32 {
@@ -63,7 +64,7 @@ pub fn cleared(vars: &mut [u16; 192], slot: u8)
     ensures { λ _. ⌜ now (vars .exit) ≡ cleared 0 (now (vars .entry)) slot ⌝ }
 {
     let mut k = place_of(slot, 0) as usize;
-    let end = last_place(slot);
+    let end = end_place(slot);
     while k < end {
         vars[k] = 0;
         k += 1;
@@ -71,10 +72,10 @@ pub fn cleared(vars: &mut [u16; 192], slot: u8)
 }
 
 // One past the variables of a slot, 0 where there is no such slot.
-fn last_place(slot: u8) -> usize
+fn end_place(slot: u8) -> usize
     ensures { λ r. ⌜ End slot r ⌝ }
 {
-    if slot < 12 {
+    if slot < Slot::SLOTS {
         place_of(slot, 16) as usize
     } else {
         0

@@ -1,8 +1,8 @@
 // The event of a permitted step, and its record: twelve plain numbers, so that a run's events can be lent.
 use state::ended::Ended;
 use state::ended::endings_of;
-use state::ended::first_of;
-use state::ended::second_of;
+use state::ended::first_ended;
+use state::ended::second_ended;
 ghost use mathlib.Core.Path.{_≡_};
 ghost use Rattle.rules.specs.Event.{noDeed, numbered, recordOf, roomIn, numberAt, recordPut};
 
@@ -108,8 +108,8 @@ fn numbered(op: u16, d: Deed, program: u16, machine: u16, thread: u16, n: Ended)
             machine,
             thread,
             endings_of(n),
-            first_of(n),
-            second_of(n),
+            first_ended(n),
+            second_ended(n),
         ],
     }
 }
@@ -125,7 +125,7 @@ pub fn room_in(records: &[u16]) -> usize
 pub fn number_at(records: &[u16], i: u16, field: u8) -> u16
     ensures { λ r. ⌜ r ≡ numberAt (now (records .entry)) i field ⌝ }
 {
-    let at = i as usize * 12 + field as usize;
+    let at = i as usize * Record::NUMBERS + field as usize;
     if at < records.len() { records[at] } else { 0 }
 }
 
@@ -134,12 +134,12 @@ pub fn write_record(records: &mut [u16], i: u16, r: Record)
     ensures { λ _. ⌜ now (records .exit) ≡ recordPut (now (records .entry)) i r ⌝ }
 {
     let n = r.numbers;
-    let from = i as usize * 12;
-    if records.len() < from + 12 {
+    let from = i as usize * Record::NUMBERS;
+    if records.len() < from + Record::NUMBERS {
         return;
     }
     let mut k = 0;
-    while k < 12 {
+    while k < Record::NUMBERS {
         records[from + k] = n[k];
         k += 1;
     }

@@ -1,5 +1,4 @@
-// Late launch: the thread ends, and in its slot a new one runs the machine's launch program. The machine's dynamic
-// registers become dinit and are locked by the new thread, whoever held them. All other locks stay.
+// Late launch, values: the machine's dynamic registers become dinit, all others keep theirs.
 use crate::effect::known_values;
 use state::launch::is_dynamic;
 ghost use mathlib.Core.Path.{_≡_};

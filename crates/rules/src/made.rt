@@ -54,15 +54,9 @@ pub fn made<'a>(
     let mut values = s.values;
     let mut vars = s.vars;
     let before = counters_in(f);
-    slots_made(
-        &mut slots,
-        actions,
-        lengths,
-        machines,
-        f.serial,
-        code,
-        l.program,
-    );
+    let next = f.serial;
+    let program = l.program;
+    slots_made(&mut slots, actions, lengths, machines, next, code, program);
     let c = rest_made(
         &f.slots,
         &mut locks,
@@ -275,11 +269,7 @@ fn rest_handed<'b>(
     let r = slot_at(slots, j);
     bound(lengths, vars, i, q, 0);
     bound(lengths, vars, j, r, x);
-    Counters {
-        steps: one_more(c.steps),
-        serial: c.serial,
-        nonce: c.nonce,
-    }
+    moved(c, 5)
 }
 
 fn rest_reset<'a, 'b>(

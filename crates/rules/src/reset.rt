@@ -1,12 +1,13 @@
-// Reset: every thread on the machine ends, its locks are freed, RAM becomes label 0 and all registers sinit, disk stays.
-// A boot thread takes the lowest free slot and, if the machine is protected, all its static registers.
+// Reset, values and variables: RAM of the machine becomes label 0, its registers sinit, disk stays. The variables of the
+// threads that ended are unbound.
 use crate::effect::cleared;
 use crate::effect::known_values;
 use crate::effect::known_vars;
 use model::records::location_in;
 use state::reset::is_on;
 ghost use mathlib.Core.Path.{_≡_};
-ghost use Rattle.rules.specs.Restart.{resetValue, valueReset, valuesReset, slotCleared, varsReset};
+ghost use Rattle.rules.specs.Restart.{resetValue, valueReset, valuesReset, varsReset};
+ghost use Rattle.rules.specs.Parts.{slotCleared};
 
 // The variables of a slot whose thread has ended are unbound.
 pub fn vars_reset(vars: &mut [u16; 192], slots: &[u64; 12], m: u8)

@@ -11,11 +11,11 @@ use state::control::Control;
 use state::control::value_at;
 use state::early::next_action;
 use state::slot::slot_at;
+use terms::entry::add;
 use terms::line::term_at;
 use terms::subst::Taken;
 use terms::subst::take_operands;
 use terms::table::Outcome;
-use terms::table::add;
 use terms::table::cut;
 use terms::term::Term;
 ghost use mathlib.Core.Path.{_≡_};
@@ -36,12 +36,13 @@ pub enum Worked {
     Done(Labels),
 }
 
-// A refusal's number beside the terms that were entered before it.
+// A refusal's number, or the label of the result.
 pub enum Out {
     Refused(u8),
     Label(u16),
 }
 
+// An outcome with the labels of x and y, and the terms in the table, those entered before a refusal too.
 pub struct Tried {
     pub out: Out,
     pub x: u16,

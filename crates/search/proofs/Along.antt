@@ -13,8 +13,7 @@ use Rattle.terms.proofs.Back.{Grown, ZeroPast, grown-same, grown-zero}
 use Rattle.model.specs.Fields.{either}
 use Rattle.model.specs.declared.records.Model.{Model}
 use Rattle.state.specs.Code.{isCode}
-use Rattle.state.specs.Early.{Sight, earlyOf}
-use Rattle.state.specs.Seek.{sightOf}
+use Rattle.state.specs.Early.{Sight, sightOf, earlyOf}
 use Rattle.state.specs.declared.control.Control.{Control}
 use Rattle.state.proofs.Codes.{one-iff}
 use Rattle.state.proofs.Turned.{early-seven}
@@ -35,8 +34,8 @@ use Rattle.walk.specs.Machine as O
 use Rattle.walk.specs.Place.{at, landed, wentOn, unbroken}
 use Rattle.walk.proofs.Fit.{both-true}
 use Rattle.law.specs.Rules.{layoutOf}
-use Rattle.law.specs.Machines.{LabelsConf, triedLabels}
-use Rattle.search.specs.Labels.{judgeOf, conf, tryCode, labels}
+use Rattle.law.specs.Machines.{LabelsConf, conf, triedLabels}
+use Rattle.search.specs.Labels.{judgeOf, tryCode, labels}
 use Rattle.search.proofs.Codes.{code-low}
 
 -- Refusals 1 to 7

@@ -9,7 +9,7 @@ use Rattle.rules.specs.declared.event.Happening.{Happening}
 use Rattle.machine.specs.Claim.{acceptsOf, madeBy, madeIn, jumpBy, jumpsOf, beginsWith, pathOf, walkedIn, breaksClaim}
 use Rattle.machine.proofs.Judged.{some-same}
 use Rattle.law.specs.Meant.{bareEvent, bare}
-use Rattle.law.proofs.Search.{Blind}
+use Rattle.law.specs.Machines.{Blind}
 
 accepts-blind : (v : ℕ) (h : Happening) → acceptsOf v (bare h) ≡ acceptsOf v h
 unfolding acceptsOf bare

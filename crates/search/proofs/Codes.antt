@@ -7,15 +7,15 @@ use mathlib.Core.Path.{_≡_, refl, sym, ap, _∙_}
 use native.Mathlib.Omega.{arith}
 use lib.ListN.{length, drop, length-append, length-drop, drop-of-length-le}
 use lib.Dec.{eqb, ltb}
-use borrow.Author.Tests.{eqb-true, eqb-false, ltb-true, ltb-false, ne-eqb, lt-ltb, le-ltb}
+use borrow.Author.Tests.{eqb-true, eqb-false, ltb-true, ltb-false, ne-eqb, lt-ltb}
 use Rattle.terms.specs.Base.{pick, also}
 use Rattle.model.specs.Fields.{either}
 use Rattle.model.specs.declared.records.Model.{Model}
 use Rattle.model.proofs.Tests.{both-pass}
 use Rattle.state.specs.Control.{upFrom}
 use Rattle.state.specs.Code.{isCode, codesBelow, codeFrom, codeAfter}
-use Rattle.state.specs.Seek.{sightOf}
-use Rattle.state.proofs.Codes.{below-from, below-after, below-over, after-over, one-iff}
+use Rattle.state.specs.Early.{sightOf}
+use Rattle.state.proofs.Codes.{code-over, below-from, below-after, below-over, after-over, one-iff}
 use Rattle.rules.specs.Step.{stepOn}
 use Rattle.walk.specs.Base.{All, among}
 use Rattle.walk.specs.Order.{Sorted}
@@ -129,10 +129,6 @@ tested k h =
 -- what is past all codes
 pub past-codes : (k : ℕ) → 164 ≤ k → from k realCodes ≡ []
 past-codes k h = from-past k realCodes (all-imp (λ x. x < 164) (λ x. x < k) (λ x l. omega arith) realCodes codes-below)
-
-code-over : (k : ℕ) → 164 ≤ k → isCode k ≡ false
-unfolding isCode
-code-over k h = rw (le-ltb k 12 (omega arith), le-ltb k 16 (omega arith), le-ltb k 164 h)
 
 is-among : (k : ℕ) → isCode k ≡ true → among k realCodes ≡ true
 is-among k e = go (ltb k 164) refl

@@ -9,7 +9,9 @@ use borrow.Author.Tests.{ltb-true, ltb-false, leb-true, leb-false, eqb-false}
 use Rattle.terms.specs.Base.{pick, Held}
 use Rattle.terms.specs.Table.{cutTo}
 use Rattle.state.specs.Code.{codesBelow, codeAfter}
-use Rattle.state.specs.Seek.{sightOf, seekFrom}
+use Rattle.state.specs.Early.{sightOf}
+use Rattle.state.specs.Seek.{seekFrom}
+use Rattle.state.proofs.Codes.{below-over}
 use Rattle.state.specs.declared.control.Control.{Control}
 use Rattle.rules.specs.Happened.{endedOn}
 use Rattle.rules.specs.Work.{workOn}
@@ -52,20 +54,10 @@ below-most : (n : ℕ) → n < 164 → codesBelow n < 160
 unfolding codesBelow
 below-most n h = below-by (ltb n 12) (ltb n 16) (ltb n 164) n h refl refl refl
 
-all-by : (a b c : Bool) (n : ℕ) → 164 ≤ n → ltb n 12 ≡ a → ltb n 16 ≡ b → ltb n 164 ≡ c → pick a n (pick b 12 (pick c (n - 4) 160)) ≡ 160
-all-by true b c n h p q r = absurd (omega (arith, ltb-true n 12 p))
-all-by false true c n h p q r = absurd (omega (arith, ltb-true n 16 q))
-all-by false false true n h p q r = absurd (omega (arith, ltb-true n 164 r))
-all-by false false false n h p q r = refl
-
-all-below : (n : ℕ) → 164 ≤ n → codesBelow n ≡ 160
-unfolding codesBelow
-all-below n h = all-by (ltb n 12) (ltb n 16) (ltb n 164) n h refl refl refl
-
 -- from a code to 164 there is at least that code
 some-passed : (next code : ℕ) → next < 164 → 164 ≤ code → 0 < between next code
 unfolding between
-some-passed next code h g = omega (arith, below-most next h, all-below code g)
+some-passed next code h g = omega (arith, below-most next h, below-over code g)
 
 sized-left : (v : Walk) → oneSized v .left ≡ v .left
 unfolding oneSized

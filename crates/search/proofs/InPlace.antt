@@ -15,23 +15,26 @@ use Rattle.rules.specs.Made.{controlAfter}
 use Rattle.rules.specs.Parts.{Rest, rest, controlWith, slotsMade, restMade}
 use Rattle.rules.specs.declared.event.Happening.{Happening}
 use Rattle.quiet.specs.Quiet.{deepest}
+use Rattle.quiet.proofs.Deepest.{deepest-small}
 use Rattle.law.specs.Rules.{layoutOf}
 use Rattle.search.specs.Place.{levelOf, pushed}
-use Rattle.search.specs.Rows.{countersOf, countsOf}
+use Rattle.search.specs.Rows.{countersOf, countsRow, countsOf}
 use Rattle.search.specs.Turn.{standsAt, Lent, lent, turnOn}
 use Rattle.search.specs.Search.{Scene, scene, sheetsOf, quietAt, passesSoon, passesLate, spentAll, enteredFrom, sceneAfter, turnedOn}
 use Rattle.search.specs.Ahead.{Rows, rows, Others, others, Stood, stood, rowAt, countAt, controlOn, copied, restRows, noted, enteredRows}
 use Rattle.search.specs.Ahead.{lentStood, advancedBy, advancedRows}
+use Rattle.search.specs.declared.rows.Counts.{Counts}
 use Rattle.search.specs.declared.place.Place.{Place}
 use Rattle.search.specs.declared.turn.Walk.{Walk}
 use Rattle.search.specs.declared.turn.Turned.{Turned}
 use Rattle.search.specs.declared.turn.Task.{Task}
 use Rattle.search.proofs.Stacked.{Long, stackOf, stacked-at, stacked-set, depths, depths-at, depths-set}
+use Rattle.search.proofs.Stacked.{countsOn, counts-long, counts-get, counts-put, deep-small}
 use Rattle.rules.proofs.Parts.{made-rows, happened-lent}
 
 -- the scene that rows stand for
 abbrev pub sceneOf : Lent Stood → Scene
-sceneOf y = scene (y .out .walk) (stackOf (y .out .rows)) (depths (y .out .rows .others .counts)) (y .table) (y .records) (y .room)
+sceneOf y = scene (y .out .walk) (stackOf (y .out .rows)) (depths (countsOn (y .out .rows .others .counts))) (y .table) (y .records) (y .room)
 
 -- a row copied to the place after it, and changed there
 copied-at : (ls : List (List ℕ)) (i : ℕ) → i + 1 < length ls → rowAt (copied ls i) (i + 1) ≡ rowAt ls i
@@ -90,13 +93,19 @@ module _ (m : Model) (k : Task) (x : Rows) (long : Long x) (p : Place) (r : Turn
   abbrev deep : ℕ
   deep = deepest t (countAt (o .counts) i .deep) (countAt (o .counts) i .count) (r .labels .count)
 
+  abbrev counters : Counts
+  counters = countsOf (made .counters) (r .labels .count) deep
+
+  abbrev cs : List Counts
+  cs = countsOn (o .counts)
+
   abbrev made-others : Others
   made-others =
       others
       (set (o .locks) (i + 1) (made .locks))
       (set (o .values) (i + 1) (made .values))
       (set (o .vars) (i + 1) (made .vars))
-      (set (o .counts) (i + 1) (countsOf (made .counters) (r .labels .count) deep))
+      (set (o .counts) (i + 1) (countsRow counters))
 
   abbrev put : Others
   put = restRows (rowAt (x .slots) i) o (p .length) deep (layoutOf m) r
@@ -119,14 +128,20 @@ module _ (m : Model) (k : Task) (x : Rows) (long : Long x) (p : Place) (r : Turn
   abbrev there : Others → Rows
   there q = rows (set (x .slots) (i + 1) after) q
 
+  counts-is : countsOn (made-others .counts) ≡ set cs (i + 1) counters
+  counts-is =
+      counts-put counters
+      (deepest-small t (countAt (o .counts) i .deep) (countAt (o .counts) i .count) (r .labels .count) (deep-small (rowAt (o .counts) i)))
+      (i + 1) (o .counts)
+
   stack-is : stackOf (there made-others) ≡ set (stackOf x) (i + 1) control
   stack-is =
-      sym
-      (stacked-set after (made .locks) (made .values) (made .vars) (countsOf (made .counters) (r .labels .count) deep) (i + 1)
-      (x .slots) (o .locks) (o .values) (o .vars) (o .counts))
+      rw counts-is
+      (sym
+      (stacked-set after (made .locks) (made .values) (made .vars) counters (i + 1) (x .slots) (o .locks) (o .values) (o .vars) cs))
 
-  deeps-is : depths (made-others .counts) ≡ set (depths (o .counts)) (i + 1) deep
-  deeps-is = sym (depths-set (countsOf (made .counters) (r .labels .count) deep) (i + 1) (o .counts))
+  deeps-is : depths (countsOn (made-others .counts)) ≡ set (depths cs) (i + 1) deep
+  deeps-is = rw counts-is (sym (depths-set counters (i + 1) cs))
 
   abbrev happening : Happening
   happening = happenedOn (s .frame) (m .actions) (m .lengths) (r .code) (r .labels)
@@ -140,7 +155,7 @@ module _ (m : Model) (k : Task) (x : Rows) (long : Long x) (p : Place) (r : Turn
   shown y = sceneOf (lentStood y t room)
 
   kept-is : (w : Walk) (n : List ℕ) → shown (held (stood w (there made-others)) n)
-      ≡ scene w (set (stackOf x) (i + 1) control) (set (depths (o .counts)) (i + 1) deep) t n room
+      ≡ scene w (set (stackOf x) (i + 1) control) (set (depths cs) (i + 1) deep) t n room
   kept-is w n = rw (stack-is, deeps-is)
 
   abbrev quiet : Bool
@@ -153,7 +168,7 @@ module _ (m : Model) (k : Task) (x : Rows) (long : Long x) (p : Place) (r : Turn
   stands = standsAt (r .walk) (r .walk .found) (pushed p (r .code)) (r .labels .count) true
 
   abbrev soon : Bool
-  soon = passesSoon quiet deep (k .listed) t after (m .actions)
+  soon = passesSoon quiet deep (k .outline) t after (m .actions)
 
   -- passed soon, passed late, entered
   abbrev first : Held Stood
@@ -174,7 +189,7 @@ module _ (m : Model) (k : Task) (x : Rows) (long : Long x) (p : Place) (r : Turn
       )
 
   entered-is : shown (enteredRows t l x p r (layoutOf m) k)
-      ≡ enteredFrom m k (lent r t l room) p happening (controlAfter s (layoutOf m) (r .code) (r .labels)) deep i (stackOf x) (depths (o .counts))
+      ≡ enteredFrom m k (lent r t l room) p happening (controlAfter s (layoutOf m) (r .code) (r .labels)) deep i (stackOf x) (depths cs)
   unfolding enteredRows
   entered-is =
       let made-is = made-rows (rowAt (x .slots) i) (rowAt (o .locks) i) (rowAt (o .values) i) (rowAt (o .vars) i)
@@ -212,7 +227,7 @@ module _ (m : Model) (k : Task) (x : Rows) (long : Long x) (p : Place) (r : Turn
       long-three soon (late (rowAt (put .values) (i + 1)) (rowAt (put .vars) (i + 1))) first (second put) (third put) long long-there long-there
 
   pub after-is : sceneOf (advancedBy (lent r t l room) x p (layoutOf m) k)
-      ≡ sceneAfter m k (lent r t l room) p s (countAt (o .counts) i .deep) i (stackOf x) (depths (o .counts))
+      ≡ sceneAfter m k (lent r t l room) p s (countAt (o .counts) i .deep) i (stackOf x) (depths cs)
   after-is =
       two-ways
       (r .enters)
@@ -229,15 +244,15 @@ module _ (m : Model) (k : Task) (x : Rows) (long : Long x) (p : Place) (r : Turn
 
 module _ (m : Model) (k : Task) (t l room : List ℕ) (x : Rows) (w : Walk) (long : Long x) where
   -- a turn over rows
-  pub turned-rows : sceneOf (advancedRows t l room x w (layoutOf m) k) ≡ turnedOn m k (scene w (stackOf x) (depths (x .others .counts)) t l room)
+  pub turned-rows : sceneOf (advancedRows t l room x w (layoutOf m) k) ≡ turnedOn m k (scene w (stackOf x) (depths (countsOn (x .others .counts))) t l room)
   unfolding turnedOn advancedRows
   turned-rows =
       let i : ℕ = levelOf (w .place .length) in
       let y : Lent Turned = turnOn t l room (controlOn x i) w (sheetsOf m) k in
-      let at = stacked-at i (x .slots) (x .others .locks) (x .others .values) (x .others .vars) (x .others .counts)
+      let at = stacked-at i (x .slots) (x .others .locks) (x .others .values) (x .others .vars) (countsOn (x .others .counts))
       (rw (long .slots) (omega arith)) (rw (long .locks) (omega arith)) (rw (long .values) (omega arith))
-      (rw (long .vars) (omega arith)) (rw (long .counts) (omega arith)) in
-      rw (at, depths-at i (x .others .counts)) (after-is m k x long (w .place) (y .out) (y .table) (y .records) (y .room))
+      (rw (long .vars) (omega arith)) (rw (counts-long, long .counts) (omega arith)) in
+      rw (at, depths-at i (countsOn (x .others .counts)), counts-get) (after-is m k x long (w .place) (y .out) (y .table) (y .records) (y .room))
 
   pub long-rows : Long (advancedRows t l room x w (layoutOf m) k .out .rows)
   unfolding advancedRows

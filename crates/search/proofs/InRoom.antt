@@ -60,7 +60,7 @@ unfolding wordsPut
 rows-below [] l j p h = refl
 rows-below (w ∷ ws) l j p h = rows-below ws (wordPut l j w) (j + 1) p (omega arith) ∙ put-below l j w p h
 
--- 'bytes of the room past the schedules written stay as lent'
+-- bytes of the room past the schedules written stay as lent
 pub rows-past : (ws : List (List ℕ)) (l : List ℕ) (j p : ℕ) → ((i : ℕ) → i < length ws → length (getD ws i []) ≤ 24) → (j + length ws) * 25 ≤ p →
     getD (wordsPut l j ws) p 0 ≡ getD l p 0
 unfolding wordsPut

@@ -22,6 +22,7 @@ use Rattle.rules.specs.declared.inner.Stepped.{Stepped}
 use Rattle.rules.specs.declared.work.Labels.{Labels}
 use Rattle.machine.specs.Claim.{breaksClaim}
 use Rattle.machine.specs.Judge.{breaksOn}
+use Rattle.machine.specs.Run.{Left}
 use Rattle.walk.specs.Machine.{Machine}
 use Rattle.walk.specs.Machine as O
 use Rattle.walk.specs.Place.{at, unbroken}
@@ -35,7 +36,7 @@ use Rattle.law.specs.Rules.{layoutOf}
 use Rattle.law.specs.Machines.{LabelsConf}
 use Rattle.search.specs.Labels.{tryCode, labels}
 use Rattle.search.specs.Place.{place, startPlace, atCode, codeIn, pushed}
-use Rattle.search.specs.Enter.{noControl, wentOn, Climb, climb, Climbed, entered, onGood, enterStep, enterIn, enterOn}
+use Rattle.search.specs.Enter.{noControl, wentOn, Climb, climb, entered, onGood, enterStep, enterIn, enterOn}
 use Rattle.search.specs.Search.{deepsOf}
 use Rattle.search.specs.Shown.{padded, tidied}
 use Rattle.search.specs.declared.place.Place.{Place}
@@ -186,7 +187,7 @@ module _ (m : Model) (start : Sane (labels m .fresh)) (J : Judging m) (p : Place
               getD-set-other (x .stack) (i + 1) k control noControl (λ f. d (f ∙ omega arith)) ∙ v .controls k (omega arith)
 
   -- what comes of entering
-  pub record Enters (e : Climbed Entered) : Type 0 where
+  pub record Enters (e : Left Entered) : Type 0 where
     pub good : e .out .good ≡ unbroken (labels m) (stackOf (p .codes) (p .length))
     pub entry : e .out .good ≡ true → Entry (p .length) (climb (e .out .stack) (e .out .place) (e .table) (e .records))
     pub next : e .out .good ≡ true → e .out .place .next ≡ p .next
@@ -196,7 +197,7 @@ module _ (m : Model) (start : Sane (labels m .fresh)) (J : Judging m) (p : Place
       let g : unbroken M (stackOf ds (p .length)) ≡ false = ap (λ (k : ℕ). unbroken M (stackOf ds k)) (sym e) ∙ broken-on d (suc i) f in
       record { good = sym g; entry = λ z. absurd (never false z refl); next = λ z. absurd (never false z refl) }
 
-  by-went : (d i : ℕ) (l : d + suc i ≡ p .length) (h : i < p .length) (x : Climb) (v : Entry i x) (rest : Climb → Climbed Entered) →
+  by-went : (d i : ℕ) (l : d + suc i ≡ p .length) (h : i < p .length) (x : Climb) (v : Entry i x) (rest : Climb → Left Entered) →
       ((y : Climb) → Entry (suc i) y → Enters (rest y)) → {r : Held Stepped} → Went m (c i h x v) (code i h x v) r →
       Enters (enterStep r rest (m .claim) i (code i h x v) x)
   unfolding wentOn

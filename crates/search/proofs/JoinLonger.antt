@@ -31,7 +31,7 @@ use Rattle.walk.specs.List.{listWalk}
 use Rattle.walk.proofs.Array.{stack-set, stack-push}
 use Rattle.walk.proofs.Loop.{push-zero}
 use Rattle.walk.proofs.List.{list-whole}
-use Rattle.quiet.specs.Quiet.{deepest, listedOf, allNear, shallow}
+use Rattle.quiet.specs.Quiet.{deepest, outlineOf, allNear, shallow}
 use Rattle.quiet.proofs.Bounds.{Bounds, deeper-grown}
 use Rattle.law.specs.Rules.{layoutOf}
 use Rattle.law.specs.Machines.{LabelsConf}
@@ -251,12 +251,12 @@ module _ {m : Model} {start : Sane (labels m .fresh)} {J : Judging m} {n B : ℕ
       quiet = quietAt rest j k (control .frame .slots) (m .lengths) (control .count)
 
       abbrev soon : Bool
-      soon = passesSoon quiet deep (listedOf m) table (control .frame .slots) (m .actions)
+      soon = passesSoon quiet deep (outlineOf m) table (control .frame .slots) (m .actions)
 
       abbrev late : Bool
       late = passesLate quiet table (control .frame .slots) (control .values) (control .vars) (m .actions)
 
-      plain-soon : quiet ≡ true → (shallow deep (listedOf m) ≡ true) ⊎ (allNear table (control .frame .slots) (m .actions) deep ≡ true) →
+      plain-soon : quiet ≡ true → (shallow deep (outlineOf m) ≡ true) ⊎ (allNear table (control .frame .slots) (m .actions) deep ≡ true) →
           (i : ℕ) → markOf (tryCode m (at M (code ∷ stackOf cs j)) i) ≡ plain
       plain-soon f (inl low) =
           let g = quiet-parts rest j k (control .frame .slots) (m .lengths) (control .count) f in
@@ -267,7 +267,7 @@ module _ {m : Model} {start : Sane (labels m .fresh)} {J : Judging m} {n B : ℕ
 
       at-soon : soon ≡ true → Turns m start J n B x (passScene (x .stack) (x .deeps))
       at-soon f =
-          let p = soon-parts quiet deep (listedOf m) table (control .frame .slots) (m .actions) f in
+          let p = soon-parts quiet deep (outlineOf m) table (control .frame .slots) (m .actions) f in
           let g = quiet-parts rest j k (control .frame .slots) (m .lengths) (control .count) (p .0) in
           at-passed (x .stack) (x .deeps) (parts-on a b o) (v .stack) (v .deeps) (g .budget) (g .last) (plain-soon (p .0) (p .1))
 

@@ -17,7 +17,7 @@ use Rattle.walk.specs.Place.{from}
 use Rattle.walk.specs.Array.{settledIn}
 use Rattle.walk.proofs.Loop.{ZeroPast}
 use Rattle.quiet.specs.Quiet.{allFit, allNear, calm, shallow}
-use Rattle.quiet.specs.declared.quiet.Listed.{Listed}
+use Rattle.quiet.specs.declared.quiet.Outline.{Outline}
 use Rattle.search.specs.Labels.{realCodes, labels}
 use Rattle.search.specs.Search.{atLast, quietAt, passesSoon, passesLate}
 use Rattle.search.specs.declared.turn.Task.{Task}
@@ -33,13 +33,13 @@ last-parts left n bound e =
 pub record Quieted (left n : ℕ) (k : Task) (slots lengths : List ℕ) (count : ℕ) : Type 0 where
   pub budget : 160 ≤ left
   pub last : k .bound ≤ n + 2
-  pub calm : calm slots lengths count (k .listed) ≡ true
+  pub calm : calm slots lengths count (k .outline) ≡ true
 
 pub quiet-parts : (left n : ℕ) (k : Task) (slots lengths : List ℕ) (count : ℕ) → quietAt left n k slots lengths count ≡ true →
     Quieted left n k slots lengths count
 unfolding quietAt
 quiet-parts left n k slots lengths count e =
-    let h = both-pass (atLast left n (k .bound)) (calm slots lengths count (k .listed)) e in
+    let h = both-pass (atLast left n (k .bound)) (calm slots lengths count (k .outline)) e in
     let l = last-parts left n (k .bound) (h .0) in
     record { budget = l .0; last = l .1; calm = h .1 }
 
@@ -48,7 +48,7 @@ soon-by true true b e = (refl, inl refl)
 soon-by true false b e = (refl, inr e)
 soon-by false a b e = absurd (let z : _≡_ {A = ℕ} 0 1 = cc in omega arith)
 
-pub soon-parts : (q : Bool) (d : ℕ) (g : Listed) (t slots actions : List ℕ) → passesSoon q d g t slots actions ≡ true →
+pub soon-parts : (q : Bool) (d : ℕ) (g : Outline) (t slots actions : List ℕ) → passesSoon q d g t slots actions ≡ true →
     (q ≡ true) × ((shallow d g ≡ true) ⊎ (allNear t slots actions d ≡ true))
 unfolding passesSoon
 soon-parts q d g t slots actions e = soon-by q (shallow d g) (allNear t slots actions d) e

@@ -71,4 +71,4 @@ module _ (m : Model) (S : SoundModel m) (A : W.Arrays m) where
 
 pub quiet-along : (m : Model) → Arrays m → soundModel m ≡ true → Quiet m
 quiet-along m a sound =
-    quieting m (test-model {m = m} (a .lines) sound) (record { lines = a .lines; threads = a .threads; locations = a .locations })
+    quieting m (test-model {m = m} (a .tables .lines) sound) (a .tables)

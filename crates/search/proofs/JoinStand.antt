@@ -17,7 +17,7 @@ use Rattle.rules.specs.declared.event.Happening.{Happening}
 use Rattle.rules.specs.declared.work.Labels.{Labels}
 use Rattle.machine.specs.Claim.{breaksClaim}
 use Rattle.machine.specs.Judge.{breaksOn, brokenBy}
-use Rattle.quiet.specs.Quiet.{allFit, allNear, calm, shallow, listedOf}
+use Rattle.quiet.specs.Quiet.{allFit, allNear, calm, shallow, outlineOf}
 use Rattle.quiet.proofs.Bounds.{Bounds}
 use Rattle.walk.specs.Machine.{Machine}
 use Rattle.walk.specs.Trail.{plain, markOf}
@@ -47,7 +47,7 @@ pub record Judging (m : Model) : Type 1 where
   pub ending : (l : List ℕ) (hs : List Happening) (h : Happening) → Holds l hs → brokenBy l (length hs) (h .ended) (m .claim) ≡ breaksClaim (m .claim) hs h
 
 abbrev pub calmAt : Model → LabelsConf → Bool
-calmAt m c = calm (c .control .frame .slots) (m .lengths) (c .control .count) (listedOf m)
+calmAt m c = calm (c .control .frame .slots) (m .lengths) (c .control .count) (outlineOf m)
 
 abbrev pub fitAt : Model → LabelsConf → Bool
 fitAt m c = allFit (c .table) (c .control .frame .slots) (c .control .values) (c .control .vars) (m .actions)
@@ -58,7 +58,7 @@ nearAt m c d = allNear (c .table) (c .control .frame .slots) (m .actions) d
 -- what crate `quiet` gives: at a schedule whose configuration is calm all codes are plain, where its terms are shallow, or where the
 -- operands of its next actions are, or where those actions fit
 pub record Quiet (m : Model) : Type 0 where
-  pub soon : (up : List ℕ) (d : ℕ) → calmAt m (at (labels m) up) ≡ true → shallow d (listedOf m) ≡ true →
+  pub soon : (up : List ℕ) (d : ℕ) → calmAt m (at (labels m) up) ≡ true → shallow d (outlineOf m) ≡ true →
       Bounds d (at (labels m) up .table) (at (labels m) up .control .count) → (k : ℕ) → markOf (tryCode m (at (labels m) up) k) ≡ plain
   pub near : (up : List ℕ) (d : ℕ) → calmAt m (at (labels m) up) ≡ true → nearAt m (at (labels m) up) d ≡ true →
       Bounds d (at (labels m) up .table) (at (labels m) up .control .count) → (k : ℕ) → markOf (tryCode m (at (labels m) up) k) ≡ plain

@@ -43,7 +43,7 @@ use Rattle.law.specs.Machines.{LabelsConf}
 use Rattle.search.specs.Labels.{realCodes, tryCode, labels}
 use Rattle.search.specs.Place.{place, atCode, pushed, settled}
 use Rattle.search.specs.Answer.{roomFor}
-use Rattle.search.specs.Turn.{walk, between, oneMore, past, oneSized, refusedBy, foundOn, still, lent}
+use Rattle.search.specs.Turn.{walk, between, oneTryMore, past, oneSized, refusedBy, foundOn, still, lent}
 use Rattle.search.specs.Search.{Scene, scene, sheetsOf, sceneAfter, turnedOn, task}
 use Rattle.search.specs.Shown.{spotOf, wordPut}
 use Rattle.search.specs.declared.place.Place.{Place}
@@ -59,9 +59,9 @@ use Rattle.search.proofs.JoinShows.{j-small, parts, turned-is, inv-on, 
 use Rattle.search.proofs.JoinSought.{Tries, reach, code-real, not-none}
 use Rattle.search.proofs.JoinTurn as T
 
-one-more : (i : ℕ) → i < 4294967295 → oneMore i ≡ i + 1
-unfolding oneMore
-one-more i h = rw (lt-ltb i 4294967295 h)
+one-try-more : (i : ℕ) → i < 4294967295 → oneTryMore i ≡ i + 1
+unfolding oneTryMore
+one-try-more i h = rw (lt-ltb i 4294967295 h)
 
 -- the table as it was, and a count of terms that is no smaller
 grown-wide : {l t : List ℕ} {c d : ℕ} → Grown l c t d → Grown l c l d
@@ -199,7 +199,7 @@ module _ {m : Model} {start : Sane (labels m .fresh)} {J : Judging m} {n B : ℕ
     sized-is : oneSized (past (x .walk) (codeAfter code) (between nx code + 1)) ≡ walk after rest (x .walk .sized + 1) (x .walk .found)
         (x .walk .filled) true End
     unfolding oneSized past atCode
-    sized-is = rw (one-more (x .walk .sized) (omega (arith, v .sized, some-left, v .limit)))
+    sized-is = rw (one-try-more (x .walk .sized) (omega (arith, v .sized, some-left, v .limit)))
 
     plain-is : past (x .walk) (codeAfter code) (between nx code + 1) ≡ walk after rest (x .walk .sized) (x .walk .found) (x .walk .filled) true End
     unfolding past atCode
@@ -275,7 +275,7 @@ module _ {m : Model} {start : Sane (labels m .fresh)} {J : Judging m} {n B : ℕ
     unfolding foundOn past atCode
     found-is =
         rw (
-          one-more (x .walk .found) (omega (arith, v .found, some-left, v .limit)),
+          one-try-more (x .walk .found) (omega (arith, v .found, some-left, v .limit)),
           put-is (x .room) (x .walk .found) cs j code
               (v .stands .long) (j-small v) (v .stands .clean),
         )

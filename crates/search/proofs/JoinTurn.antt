@@ -7,7 +7,8 @@ use borrow.Author.Tests.{lt-ltb, le-ltb, le-leb, lt-leb, eq-eqb, ne-eqb}
 use Rattle.terms.specs.Base.{Held}
 use Rattle.terms.specs.Table.{cutTo}
 use Rattle.state.specs.Code.{codeAfter}
-use Rattle.state.specs.Seek.{sightOf, seekFrom}
+use Rattle.state.specs.Early.{sightOf}
+use Rattle.state.specs.Seek.{seekFrom}
 use Rattle.state.specs.declared.control.Control.{Control}
 use Rattle.rules.specs.Happened.{endedOn}
 use Rattle.rules.specs.Work.{workOn}

@@ -25,10 +25,11 @@ use Rattle.walk.specs.List.{listWalk, listIn}
 use Rattle.walk.proofs.Fit.{both-true}
 use Rattle.walk.proofs.Array.{length-stack}
 use Rattle.walk.proofs.List.{Settled, settle-twice}
+use Rattle.machine.specs.Run.{Left}
 use Rattle.search.specs.Labels.{realCodes, labels}
 use Rattle.search.specs.Place.{settled}
 use Rattle.search.specs.Answer.{listed, refusedListing, roomFor}
-use Rattle.search.specs.Enter.{inBounds, controlAt, climb, Climbed, enterOn}
+use Rattle.search.specs.Enter.{inBounds, controlAt, climb, enterOn}
 use Rattle.search.specs.Turn.{walk}
 use Rattle.search.specs.Search.{Scene, scene, walkIn, walkOn, firstWalk, deepsOf, walkFrom, task, boundFits, listingEntered, listingOn}
 use Rattle.search.specs.Shown.{spotOf, placeAt, tidied, fitsOn, listingShown}
@@ -107,7 +108,7 @@ module _ (m : Model) (long : length (m .lines) ≡ 512) (sound : soundModel m �
   small : n ≤ 24
   small = bound-parts n bound .1
 
-  abbrev e : Climbed Entered
+  abbrev e : Left Entered
   e = enterOn (m .lines) (replicate 288 0) m p
 
   checked : listingOn m n p b room ≡ pick (not (inBounds p n)) (held (refusedListing 40) room) (listingEntered e m n b room)

@@ -19,9 +19,10 @@ use Rattle.rules.specs.Made.{controlAfter}
 use Rattle.rules.specs.Step.{stepOn}
 use Rattle.rules.specs.declared.event.Happening.{Happening}
 use Rattle.quiet.specs.Quiet.{deepest}
+use Rattle.machine.specs.Run.{Left}
 use Rattle.search.specs.Place.{atCode, levelOf, pushed, codeIn, popped, isDone, settleIn, settled}
 use Rattle.law.specs.Rules.{layoutOf}
-use Rattle.search.specs.Enter.{controlAt, Climb, Climbed, entered, enterStep, enterIn}
+use Rattle.search.specs.Enter.{controlAt, Climb, entered, enterStep, enterIn}
 use Rattle.search.specs.Turn.{standsAt, Lent, turnOn}
 use Rattle.search.specs.Search.{Scene, scene, sheetsOf, quietAt, passesSoon, passesLate, spentAll, enteredBy, sceneAfter, deepAt}
 use Rattle.search.specs.Search.{turnedOn, walkIn, walkOn}
@@ -63,7 +64,7 @@ settle-end p e = go (p .length)
 
 -- enter
 module _ (m : Model) (p : Place) (i : ℕ) (x : Climb) where
-  abbrev further : (Climb → Climbed Entered) → Climbed Entered
+  abbrev further : (Climb → Left Entered) → Left Entered
   further rest =
       enterStep
       (stepOn (x .table) (controlAt (x .stack) i) (layoutOf m) (m .«machine_count») (codeIn (p .codes) i))
@@ -116,7 +117,7 @@ module _ (m : Model) (k : Task) where
       let kept : List Control = set stack (level + 1) c in
       let deep : List ℕ = set deeps (level + 1) d in
       left-by
-      (passesSoon quiet d (k .listed) (r .table) (c .frame .slots) (m .actions))
+      (passesSoon quiet d (k .outline) (r .table) (c .frame .slots) (m .actions))
       (passesLate quiet (r .table) (c .frame .slots) (c .values) (c .vars) (m .actions))
       (scene (spentAll w) stack deeps (r .table) (r .records) (r .room))
       (scene (spentAll w) kept deep (r .table) (r .records) (r .room))

@@ -2,7 +2,7 @@
 -- then those from its place on, lists what the listing with room for all does; from the start that is all bad schedules.
 use Prim.Native.Nat.{ℕ, _+_, _-_, _<_, _≤_}
 use mathlib.Core.Bool.{Bool, true, false}
-use mathlib.Core.List.{List}
+use mathlib.Core.List.{List, [], _∷_}
 use mathlib.Core.Path.{_≡_, refl, sym, ap, _∙_, subst}
 use native.Mathlib.Omega.{arith}
 use lib.ListN.{length, getD, take, replicate, length-replicate, getD-replicate, List·getD-eq-default}
@@ -15,19 +15,22 @@ use Rattle.audit.specs.Models.{soundModel}
 use Rattle.audit.proofs.Check.{test-model}
 use Rattle.walk.specs.Base.{All}
 use Rattle.walk.specs.Machine.{Machine}
-use Rattle.walk.specs.Trail.{trails}
+use Rattle.walk.specs.Trail.{Try, badIn, trails}
+use Rattle.walk.specs.Place as P
 use Rattle.walk.specs.Array.{Spot, view}
 use Rattle.walk.specs.List.{Close, full, spent, done, Listed, withWords, withCounts, listIn, listAll}
+use Rattle.walk.specs.List.{Closes, no-room, used-up, no-more}
 use Rattle.walk.proofs.Array.{Ok}
 use Rattle.walk.proofs.Gather.{Counted}
 use Rattle.walk.proofs.Loop.{Clean}
-use Rattle.walk.proofs.ListPasses.{list-ok, list-clean, list-short, never-full, all-same, all-on, lists-all, lists-enough, lists-part}
+use Rattle.walk.proofs.ListPasses.{list-passes, list-ok, list-clean, list-short, never-full, all-same, all-on, lists-all, lists-enough, lists-part}
 use Rattle.search.specs.Labels.{labels}
 use Rattle.search.specs.Place.{startPlace}
 use Rattle.search.specs.Answer.{refusedListing, roomFor}
 use Rattle.search.specs.Search.{boundFits, listingOn}
-use Rattle.search.specs.Shown.{placeAt, padded, tidied, fitsOn, listingShown, placeSeen, GoodPlace, GoodBudget, Arrays}
+use Rattle.search.specs.Shown.{placeAt, padded, tidied, fitsOn, kindOf, listingShown, placeSeen, GoodPlace, GoodBudget, Arrays}
 use Rattle.search.specs.declared.place.Place.{Place}
+use Rattle.search.specs.declared.answer.Kind.the-variants.{Found}
 use Rattle.search.specs.declared.answer.Listing.{Listing}
 use Rattle.search.proofs.Codes.{labels-coded}
 use Rattle.search.proofs.JoinRoom.{clean-padded}
@@ -61,6 +64,16 @@ padded-zero w i h =
         omega (arith, length-replicate {A = ℕ} (24 - length w) 0, ltb-false (i - length w) (24 - length w) e) in
         List·getD-eq-default {A = ℕ} (replicate (24 - length w) 0) 0 f
 
+-- a listing that is full, with room for one, has passed a try
+some-past : (l : List Try) → 0 < length (badIn l) → 0 < length l
+some-past [] h = absurd (omega arith)
+some-past (t ∷ l) h = omega arith
+
+full-some : (M : Machine) (n b k : ℕ) (past : List Try) (p : P.Place) {c : Close} → Closes M n b k past p c → kindOf c ≡ Found → 0 < k → 0 < length past
+full-some M n b k past p (no-room e) f h = some-past past (omega (arith, e))
+full-some M n b k past p (used-up e i j) f h = absurd (let z : _≡_ {A = ℕ} 0 1 = cc in omega arith)
+full-some M n b k past p (no-more e i j) f h = absurd (let z : _≡_ {A = ℕ} 0 1 = cc in omega arith)
+
 module _ (m : Model) (arrays : Arrays m) (sound : soundModel m ≡ true) (n : ℕ) (bound : boundFits n ≡ true) where
   abbrev M : Machine
   M = labels m
@@ -68,7 +81,7 @@ module _ (m : Model) (arrays : Arrays m) (sound : soundModel m ≡ true) (n : �
   pub listing-unfit : (p : Place) (b : ℕ) (room : List ℕ) → length (p .codes) ≡ 24 → GoodBudget b → fitsOn m n p ≡ false →
       listingOn m n p b room ≡ held (refusedListing 40) room
   listing-unfit p b room long limit e =
-      listing-refused m (arrays .lines) sound (judging m (test-model {m = m} (arrays .lines) sound) (arrays .path)) (quiet-along m arrays sound)
+      listing-refused m (arrays .tables .lines) sound (judging m (test-model {m = m} (arrays .tables .lines) sound) (arrays .path)) (quiet-along m arrays sound)
       n bound p long b limit room e
 
   module _ (p : Place) (b : ℕ) (room : List ℕ) (good : GoodPlace m n p) (can : GoodBudget b) where
@@ -77,7 +90,7 @@ module _ (m : Model) (arrays : Arrays m) (sound : soundModel m ≡ true) (n : �
 
     -- S1 for a listing
     pub listing-shows : listingOn m n p b room ≡ listingShown room (listIn (labels m) n (roomFor room) b (tidied p))
-    listing-shows = listing-is m (arrays .lines) sound (judging m (test-model {m = m} (arrays .lines) sound) (arrays .path)) (quiet-along m arrays sound)
+    listing-shows = listing-is m (arrays .tables .lines) sound (judging m (test-model {m = m} (arrays .tables .lines) sound) (arrays .path)) (quiet-along m arrays sound)
         n bound p (good .1) b can room (good .0)
 
     ok : Ok M n 24 (tidied p)
@@ -113,6 +126,14 @@ module _ (m : Model) (arrays : Arrays m) (sound : soundModel m ≡ true) (n : �
     -- its schedules are no longer than the bound
     pub words-short : All (λ w. length w ≤ n) (listIn (labels m) n (roomFor room) b (tidied p) .words)
     words-short = list-short M (labels-coded m) n 24 (bound-parts n bound .1) (roomFor room) b (tidied p) ok
+
+    -- found is answered only behind a try
+    pub full-spends : 25 ≤ length room → kindOf (l .close) ≡ Found → (0 < l .tries) × (l .tries ≤ b)
+    unfolding roomFor
+    full-spends h e =
+        let L = list-passes M (labels-coded m) n 24 (bound-parts n bound .1) (roomFor room) b (tidied p) ok in
+        let s = full-some M n b (roomFor room) (L .past) (view (l .place)) (L .closes) e (omega arith) in
+        (omega (arith, L .tries, s), omega (arith, L .tries, L .within))
 
     -- the whole listing: this one where it is not full, else this one and then the whole from its place on
     pub whole-here : (l .close ≡ full → ⊥) → listAll (labels m) n b (tidied p) ≡ l
@@ -159,3 +180,30 @@ module _ (m : Model) (arrays : Arrays m) (sound : soundModel m ≡ true) (n : �
           (lists-enough M (labels-coded m) n 24 (bound-parts n bound .1) (bound-parts n bound .0) (b + 1) b (tidied startPlace) start-ok
           (start-seen ∙ start-first m arrays sound n bound) h e)
       go done e = refl
+
+-- any listing whose room takes a schedule: where it answers found, less of the budget is left
+module _ (m : Model) (arrays : Arrays m) (n : ℕ) (p : Place) (long : length (p .codes) ≡ 24) (b : ℕ) (can : GoodBudget b) (room : List ℕ)
+    (some : 25 ≤ length room) where
+  abbrev Spends : Held Listing → Type 0
+  Spends r = r .out .kind ≡ Found → b - r .out .tries < b
+
+  refused-spends : (k : ℕ) → Spends (held (refusedListing k) room)
+  unfolding refusedListing
+  refused-spends k f = absurd (let z : _≡_ {A = ℕ} 0 1 = cc in omega arith)
+
+  fit-spends : soundModel m ≡ true → boundFits n ≡ true → (c : Bool) → fitsOn m n p ≡ c → Spends (listingOn m n p b room)
+  fit-spends sound bound true e =
+      subst Spends (sym (listing-shows m arrays sound n bound p b room (e, long) can))
+      (λ f. let s = full-spends m arrays sound n bound p b room (e, long) can some f in omega (arith, s .0, s .1))
+  fit-spends sound bound false e = subst Spends (sym (listing-unfit m arrays sound n bound p b room long can e)) (refused-spends 40)
+
+  bound-spends : soundModel m ≡ true → (c : Bool) → boundFits n ≡ c → Spends (listingOn m n p b room)
+  bound-spends sound true e = fit-spends sound e (fitsOn m n p) refl
+  bound-spends sound false e = subst Spends (sym (listing-unbounded m n p b room sound e)) (refused-spends 41)
+
+  sound-spends : (c : Bool) → soundModel m ≡ c → Spends (listingOn m n p b room)
+  sound-spends true e = bound-spends e (boundFits n) refl
+  sound-spends false e = subst Spends (sym (listing-unsound m n p b room e)) (refused-spends 11)
+
+  pub listing-spends : listingOn m n p b room .out .kind ≡ Found → b - listingOn m n p b room .out .tries < b
+  listing-spends = sound-spends (soundModel m) refl

@@ -11,7 +11,7 @@ use lib.ListN.{length, length-replicate}
 use borrow.Author.Tests.{lt-ltb}
 use Rattle.model.specs.declared.records.Model.{Model}
 use Rattle.state.specs.Control.{upFrom}
-use Rattle.state.specs.Seek.{sightOf}
+use Rattle.state.specs.Early.{sightOf}
 use Rattle.state.proofs.Codes.{one-iff}
 use Rattle.audit.specs.Models.{soundModel}
 use Rattle.audit.proofs.Check.{test-model}
@@ -33,8 +33,8 @@ use Rattle.walk.proofs.Placed.{placed}
 use Rattle.walk.proofs.Claims as W
 use Rattle.walk.proofs.Member.{mem-all-bad}
 use Rattle.law.specs.Rules.{stepR}
-use Rattle.law.specs.Machines.{rules}
-use Rattle.law.proofs.Search.{Stand, labels-follow-rules, tries-are-rules, bad-are-rules}
+use Rattle.law.specs.Machines.{rules, Stand}
+use Rattle.law.proofs.Search.{labels-follow-rules, tries-are-rules, bad-are-rules}
 use Rattle.search.specs.Labels.{realCodes, judgeOf, tryCode, labels, limited, unlimited}
 use Rattle.search.specs.Place.{startPlace}
 use Rattle.search.specs.Search.{boundFits}
@@ -49,7 +49,7 @@ use Rattle.search.proofs.Searched.{answers}
 pub follows-rules : (m : Model) → Arrays m → soundModel m ≡ true → Follows (labels m) (unlimited m) (Stand m)
 unfolding tryCode
 follows-rules m arrays sound =
-    let F = labels-follow-rules {m = m} (judgeOf m) (claim-blind (m .claim)) (test-model {m = m} (arrays .lines) sound) (arrays .lines) realCodes in
+    let F = labels-follow-rules {m = m} (judgeOf m) (claim-blind (m .claim)) (test-model {m = m} (arrays .tables .lines) sound) (arrays .tables .lines) realCodes in
     record { codes = refl; starts = F .starts; steps = λ c d k h. F .steps c d k h }
 
 -- the rules' machine has the same codes, and refuses what is none
@@ -97,11 +97,11 @@ module _ (m : Model) (arrays : Arrays m) (sound : soundModel m ≡ true) (n : �
   -- the tries are those of the rules with limits
   pub same-tries : trails (labels m) n (labels m .fresh) ≡ trails (limited m) n (limited m .fresh)
   unfolding tryCode
-  same-tries = tries-are-rules {m = m} (judgeOf m) (claim-blind (m .claim)) (test-model {m = m} (arrays .lines) sound) (arrays .lines) realCodes n
+  same-tries = tries-are-rules {m = m} (judgeOf m) (claim-blind (m .claim)) (test-model {m = m} (arrays .tables .lines) sound) (arrays .tables .lines) realCodes n
 
   with-limits : allBad (labels m) n ≡ allBad (limited m) n
   unfolding tryCode
-  with-limits = bad-are-rules {m = m} (judgeOf m) (claim-blind (m .claim)) (test-model {m = m} (arrays .lines) sound) (arrays .lines) realCodes n
+  with-limits = bad-are-rules {m = m} (judgeOf m) (claim-blind (m .claim)) (test-model {m = m} (arrays .tables .lines) sound) (arrays .tables .lines) realCodes n
 
   module _ (bs : ℕ → ℕ) (can : (i : ℕ) → GoodBudget (bs i)) where
     -- S3

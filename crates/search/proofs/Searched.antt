@@ -79,8 +79,8 @@ module _ (m : Model) (arrays : Arrays m) (sound : soundModel m ≡ true) (n : �
   pub search-unfit : (p : Place) (b : ℕ) → length (p .codes) ≡ 24 → b ≤ 4294967295 → fitsOn m n p ≡ false → searchOn m n p b ≡ refusedAnswer 40
   unfolding searchOn
   search-unfit p b long limit e =
-      ap answerOf (listing-refused m (arrays .lines) sound
-      (judging m (test-model {m = m} (arrays .lines) sound) (arrays .path)) (quiet-along m arrays sound) n bound p long b limit (replicate 25 0) e)
+      ap answerOf (listing-refused m (arrays .tables .lines) sound
+      (judging m (test-model {m = m} (arrays .tables .lines) sound) (arrays .path)) (quiet-along m arrays sound) n bound p long b limit (replicate 25 0) e)
       ∙ refused-one 40
 
   -- the place with 0 past its schedule is the same place
@@ -110,7 +110,7 @@ module _ (m : Model) (arrays : Arrays m) (sound : soundModel m ≡ true) (n : �
       let a : Reply Spot = searchIn M n b (tidied p) in
       let r : (w : List ℕ) → a .kind ≡ R.found w → length w ≤ 24 =
       λ w e. omega (arith, found-short M (labels-coded m) n 24 (bound-parts n bound .1) b (tidied p) (tidied-ok p g) w e, bound-parts n bound .1) in
-      ap answerOf (listing-is m (arrays .lines) sound (judging m (test-model {m = m} (arrays .lines) sound) (arrays .path)) (quiet-along m arrays sound)
+      ap answerOf (listing-is m (arrays .tables .lines) sound (judging m (test-model {m = m} (arrays .tables .lines) sound) (arrays .path)) (quiet-along m arrays sound)
       n bound p (g .1) b limit (replicate 25 0) (g .0))
       ∙ ap (λ (k : ℕ). answerOf (listingShown (replicate 25 0) (listIn M n k b (tidied p)))) room-one
       ∙ ap (λ (l : Listed Spot). answerOf (listingShown (replicate 25 0) l)) (list-one M (labels-coded m) n b (tidied p))

@@ -1,5 +1,5 @@
 -- The configurations of all shorter schedules as they stand in rows, and one turn of the loops that spread them.
-use Prim.Native.Nat.{ℕ, zero, suc, _+_, _<_, _≤_}
+use Prim.Native.Nat.{ℕ, zero, suc, _+_, _%_, _<_, _≤_}
 use mathlib.Core.List.{List, [], _∷_, _++_, map, append-nil, append-assoc}
 use mathlib.Core.Path.{_≡_, refl, sym, ap, _∙_}
 use native.Mathlib.Nat.{not-suc-le-zero, le-of-suc-le-suc}
@@ -8,7 +8,8 @@ use lib.ListN.{length, getD, take, drop, set, drop-of-length-le, length-set, len
 use lib.Seq.{drop-cons, take-suc-set, take-all}
 use Rattle.state.specs.declared.control.Control.{Control}
 use Rattle.quiet.specs.Quiet.{deepest}
-use Rattle.search.specs.Rows.{controlFrom, noCounts, countsFrom, countsOn, slotRows, lockRows, valueRows, varRows, countRows}
+use Rattle.quiet.proofs.Deepest.{deepest-small}
+use Rattle.search.specs.Rows.{counts, controlFrom, countsFrom, countsRow, countsAt, slotRows, lockRows, valueRows, varRows, countRows}
 use Rattle.search.specs.Enter.{noControl}
 use Rattle.search.specs.Ahead.{Rows}
 use Rattle.search.specs.Search.{deepsOf}
@@ -35,7 +36,22 @@ module _ {A B : Type 0} (f : A → B) (stack : List A) where
   pub spread-all : (rows : List B) (i : ℕ) → Spread rows i → 25 ≤ i → rows ≡ map f stack
   spread-all rows i (e, h, g, l) k = sym (rw (e, take-all i rows (omega arith), drop-of-length-le stack {i = i} (omega arith), append-nil))
 
+-- a row is read as it was written: a depth is below 256
+pub row-read : (c : Counts) → c .deep < 256 → countsFrom (countsRow c) ≡ c
+unfolding countsFrom countsRow
+row-read c h = let e : c .deep % 256 ≡ c .deep = omega arith in rw e
+
 -- the counters in rows of five numbers
+unfoldable pub countsOn : List (List ℕ) → List Counts
+countsOn rows = map (λ (row : List ℕ). countsFrom row) rows
+
+abbrev noCounts : Counts
+noCounts = counts 0 0 0 0 0
+
+pub deep-small : (row : List ℕ) → countsFrom row .deep < 256
+unfolding countsFrom
+deep-small row = omega arith
+
 pub counts-long : (rows : List (List ℕ)) → length (countsOn rows) ≡ length rows
 unfolding countsOn
 counts-long rows = length-map rows (λ (row : List ℕ). countsFrom row)
@@ -46,12 +62,11 @@ counts-get i [] = refl
 counts-get zero (row ∷ rows) = refl
 counts-get (suc i) (row ∷ rows) = counts-get i rows
 
-pub counts-put : (row : List ℕ) (c : Counts) → countsFrom row ≡ c → (i : ℕ) (rows : List (List ℕ))
-    → countsOn (set rows i row) ≡ set (countsOn rows) i c
+pub counts-put : (c : Counts) → c .deep < 256 → (i : ℕ) (rows : List (List ℕ)) → countsOn (set rows i (countsRow c)) ≡ set (countsOn rows) i c
 unfolding countsOn
-counts-put row c e i [] = refl
-counts-put row c e zero (r ∷ rows) = rw e
-counts-put row c e (suc i) (r ∷ rows) = ap (λ (cs : List Counts). countsFrom r ∷ cs) (counts-put row c e i rows)
+counts-put c h i [] = refl
+counts-put c h zero (r ∷ rows) = rw (row-read c h)
+counts-put c h (suc i) (r ∷ rows) = ap (λ (cs : List Counts). countsFrom r ∷ cs) (counts-put c h i rows)
 
 -- there are 25 of each
 pub record Long (x : Rows) : Type 0 where
@@ -101,7 +116,7 @@ module _ (s l v x : List ℕ) (c : Counts) where
   stacked-set i [] ls vs xs cs = refl
 
 abbrev pub stackOf : Rows → List Control
-stackOf x = stacked (x .slots) (x .others .locks) (x .others .values) (x .others .vars) (x .others .counts)
+stackOf x = stacked (x .slots) (x .others .locks) (x .others .values) (x .others .vars) (countsOn (x .others .counts))
 
 -- the depths of their deepest terms
 unfoldable pub depths : List Counts → List ℕ
@@ -120,13 +135,16 @@ depths-set c zero (d ∷ cs) = refl
 depths-set c (suc i) (d ∷ cs) = ap (λ (k : List ℕ). d .deep ∷ k) (depths-set c i cs)
 
 -- configurations spread to rows
-pub stacked-rows : (t : List ℕ) (stack : List Control)
-    → stacked (slotRows stack) (lockRows stack) (valueRows stack) (varRows stack) (countRows t stack) ≡ stack
-unfolding stacked slotRows lockRows valueRows varRows countRows
-stacked-rows t [] = refl
-stacked-rows t (s ∷ ss) = ap (λ (k : List Control). s ∷ k) (stacked-rows t ss)
+spread-read : (t : List ℕ) (s : Control) → countsFrom (countsRow (countsAt t s)) ≡ countsAt t s
+spread-read t s = row-read (countsAt t s) (deepest-small t 0 0 (s .count) (omega arith))
 
-pub depths-rows : (t : List ℕ) (stack : List Control) → depths (countRows t stack) ≡ deepsOf t stack
-unfolding depths countRows deepsOf
+pub stacked-rows : (t : List ℕ) (stack : List Control)
+    → stacked (slotRows stack) (lockRows stack) (valueRows stack) (varRows stack) (countsOn (countRows t stack)) ≡ stack
+unfolding stacked slotRows lockRows valueRows varRows countRows countsOn
+stacked-rows t [] = refl
+stacked-rows t (s ∷ ss) = rw (spread-read t s) (ap (λ (k : List Control). s ∷ k) (stacked-rows t ss))
+
+pub depths-rows : (t : List ℕ) (stack : List Control) → depths (countsOn (countRows t stack)) ≡ deepsOf t stack
+unfolding depths countRows deepsOf countsOn
 depths-rows t [] = refl
-depths-rows t (s ∷ ss) = ap (λ (k : List ℕ). deepest t 0 0 (s .count) ∷ k) (depths-rows t ss)
+depths-rows t (s ∷ ss) = rw (spread-read t s) (ap (λ (k : List ℕ). deepest t 0 0 (s .count) ∷ k) (depths-rows t ss))

@@ -12,7 +12,7 @@ use Rattle.rules.specs.Made.{Layout}
 use Rattle.rules.specs.Parts.{Rest, rest, slotsMade, restMade}
 use Rattle.quiet.specs.Quiet.{deepest}
 use Rattle.search.specs.Place.{levelOf, pushed}
-use Rattle.search.specs.Rows.{controlFrom, noCounts, countersOf, countsOf}
+use Rattle.search.specs.Rows.{controlFrom, countsFrom, countsRow, countersOf, countsOf}
 use Rattle.search.specs.Turn.{standsAt, Lent, lent, sheets, turnOn}
 use Rattle.search.specs.Search.{quietAt, passesSoon, passesLate, spentAll}
 use Rattle.search.specs.declared.rows.Counts.{Counts}
@@ -26,9 +26,9 @@ pub record Others : Type 0 where
   pub locks : List (List ℕ)
   pub values : List (List ℕ)
   pub vars : List (List ℕ)
-  pub counts : List Counts
+  pub counts : List (List ℕ)
 
-abbrev pub others : List (List ℕ) → List (List ℕ) → List (List ℕ) → List Counts → Others
+abbrev pub others : List (List ℕ) → List (List ℕ) → List (List ℕ) → List (List ℕ) → Others
 others ls vs xs cs = record { locks = ls; values = vs; vars = xs; counts = cs }
 
 pub record Rows : Type 0 where
@@ -49,8 +49,8 @@ stood w x = record { walk = w; rows = x }
 abbrev pub rowAt : List (List ℕ) → ℕ → List ℕ
 rowAt ls i = getD ls i []
 
-abbrev pub countAt : List Counts → ℕ → Counts
-countAt cs i = getD cs i noCounts
+abbrev pub countAt : List (List ℕ) → ℕ → Counts
+countAt cs i = countsFrom (rowAt cs i)
 
 -- the configuration at a level
 abbrev pub controlOn : Rows → ℕ → Control
@@ -73,7 +73,7 @@ restPut n o i count deep =
     (set (copied (o .locks) i) (i + 1) (n .locks))
     (set (copied (o .values) i) (i + 1) (n .values))
     (set (copied (o .vars) i) (i + 1) (n .vars))
-    (set (o .counts) (i + 1) (countsOf (n .counters) count deep))
+    (set (o .counts) (i + 1) (countsRow (countsOf (n .counters) count deep)))
 
 abbrev pub restAt : List ℕ → Others → ℕ → ℕ → Layout → Turned → Others
 restAt slots o i deep g r =
@@ -125,7 +125,7 @@ rowsKept quiet t l ss after o p serial r g i =
 -- its slots are after, its deepest term is at depth deep
 abbrev pub rowsBy : Bool → List ℕ → List ℕ → Rows → List ℕ → ℕ → Place → Turned → Layout → Task → ℕ → Held Stood
 rowsBy quiet t l x after deep p r g k i =
-    pick (passesSoon quiet deep (k .listed) t after (g .actions)) (held (stood (spentAll (r .walk)) x) l)
+    pick (passesSoon quiet deep (k .outline) t after (g .actions)) (held (stood (spentAll (r .walk)) x) l)
     (rowsKept
     quiet
     t

@@ -18,6 +18,7 @@ use Rattle.rules.specs.declared.inner.Reply.the-variants.{Refused, Permitted}
 use Rattle.rules.specs.declared.inner.Stepped.{Stepped}
 use Rattle.law.specs.Rules.{layoutOf}
 use Rattle.machine.specs.Judge.{breaksOn}
+use Rattle.machine.specs.Run.{Left, left}
 use Rattle.search.specs.Place.{startPlace, atCode, levelOf, codeIn, pushed}
 use Rattle.search.specs.declared.place.Place.{Place}
 use Rattle.search.specs.declared.enter.Entered.{Entered}
@@ -60,34 +61,25 @@ pub record Climb : Type 0 where
 abbrev pub climb : List Control → Place → List ℕ → List ℕ → Climb
 climb stack p t l = record { stack = stack; place = p; table = t; records = l }
 
--- an answer, and the term table and the records as they are left
-pub record Climbed (A : Type 0) : Type 0 where
-  pub out : A
-  pub table : List ℕ
-  pub records : List ℕ
-
-abbrev pub climbed : {A : Type 0} → A → List ℕ → List ℕ → Climbed A
-climbed r t l = record { out = r; table = t; records = l }
-
-abbrev pub entered : Bool → Place → Climb → Climbed Entered
-entered good p x = climbed (record { good = good; stack = x .stack; place = p }) (x .table) (x .records)
+abbrev pub entered : Bool → Place → Climb → Left Entered
+entered good p x = left (record { good = good; stack = x .stack; place = p }) (x .table) (x .records)
 
 -- one step further up
 abbrev pub climbBy : Held Gone → List ℕ → ℕ → ℕ → Climb → Climb
 climbBy g t i code x = climb (set (x .stack) (levelOf i + 1) (g .out .control)) (pushed (x .place) code) t (g .table)
 
-abbrev pub onGood : Bool → (Climb → Climbed Entered) → Climb → Climbed Entered
+abbrev pub onGood : Bool → (Climb → Left Entered) → Climb → Left Entered
 onGood true rest x = rest x
 onGood false rest x = entered false (x .place) x
 
-abbrev pub enterWent : Held Gone → List ℕ → (Climb → Climbed Entered) → ℕ → ℕ → Climb → Climbed Entered
+abbrev pub enterWent : Held Gone → List ℕ → (Climb → Left Entered) → ℕ → ℕ → Climb → Left Entered
 enterWent g t rest i code x = onGood (g .out .good) rest (climbBy g t i code x)
 
-abbrev pub enterStep : Held Stepped → (Climb → Climbed Entered) → Claim → ℕ → ℕ → Climb → Climbed Entered
+abbrev pub enterStep : Held Stepped → (Climb → Left Entered) → Claim → ℕ → ℕ → Climb → Left Entered
 enterStep r rest c i code x = enterWent (wentOn (x .records) i (r .out) c) (r .table) rest i code x
 
 -- the n steps from step i on
-unfoldable pub enterIn : ℕ → Model → Place → ℕ → Climb → Climbed Entered
+unfoldable pub enterIn : ℕ → Model → Place → ℕ → Climb → Left Entered
 enterIn zero m p i x = entered true (atCode (x .place) (p .next)) x
 enterIn (suc n) m p i x =
     enterStep
@@ -99,5 +91,5 @@ enterIn (suc n) m p i x =
     x
 
 -- all steps of the schedule, from the fresh configuration on
-unfoldable pub enterOn : List ℕ → List ℕ → Model → Place → Climbed Entered
+unfoldable pub enterOn : List ℕ → List ℕ → Model → Place → Left Entered
 enterOn t l m p = enterIn (p .length) m p 0 (climb (replicate 25 (freshControl m)) startPlace t l)

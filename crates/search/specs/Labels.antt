@@ -6,11 +6,10 @@ use mathlib.Core.Bool.{Bool, true, false}
 use mathlib.Core.List.{List, [], _++_}
 use Rattle.model.specs.declared.records.Model.{Model}
 use Rattle.state.specs.Control.{upFrom, freshControl}
-use Rattle.state.specs.declared.control.Control.{Control}
 use Rattle.rules.specs.declared.event.Happening.{Happening}
 use Rattle.machine.specs.Claim.{breaksClaim}
 use Rattle.walk.specs.Machine.{Machine, Outcome}
-use Rattle.law.specs.Machines.{LabelsConf}
+use Rattle.law.specs.Machines.{LabelsConf, conf}
 use Rattle.law.specs.Machines as L
 
 -- 'Codes 0 to 11 .. Code 16 + 12s + r .. Code 160 + m'; '12 to 15 and 164 upwards are none'
@@ -21,13 +20,10 @@ realCodes = upFrom (λ i. i) 12 0 ++ upFrom (λ i. i) 148 16
 abbrev pub judgeOf : Model → List Happening → Happening → Bool
 judgeOf m hs h = breaksClaim (m .claim) hs h
 
--- term table, configuration beside it, and the events that led to it, the first first
-abbrev pub conf : List ℕ → Control → List Happening → LabelsConf
-conf l s hs = record { table = l; control = s; events = hs }
-
 unfoldable pub tryCode : Model → LabelsConf → ℕ → Outcome LabelsConf
 tryCode m c k = L.labels (judgeOf m) realCodes m .try c k
 
+-- law's machine on labels, written out so that its step stays shut where a schedule is walked
 abbrev pub labels : Model → Machine
 labels m = record {
   Conf = LabelsConf;

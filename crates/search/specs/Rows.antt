@@ -1,6 +1,6 @@
 -- A configuration that stands in a row: its four arrays, and its counters.
 use Prim.Native.Nat.{ℕ, _%_}
-use mathlib.Core.List.{List, map}
+use mathlib.Core.List.{List, [], _∷_, map}
 use lib.ListN.{getD}
 use Rattle.state.specs.declared.control.Control.{Control}
 use Rattle.rules.specs.Parts.{rest, controlWith}
@@ -11,15 +11,12 @@ use Rattle.search.specs.declared.rows.Counts.{Counts}
 abbrev pub counts : ℕ → ℕ → ℕ → ℕ → ℕ → Counts
 counts steps serial nonce count deep = record { steps = steps; serial = serial; nonce = nonce; count = count; deep = deep }
 
-abbrev pub noCounts : Counts
-noCounts = counts 0 0 0 0 0
-
--- in a row of five numbers, and in rows of them
+-- read from a row of five numbers, and such a row
 unfoldable pub countsFrom : List ℕ → Counts
 countsFrom row = counts (getD row 0 0) (getD row 1 0) (getD row 2 0) (getD row 3 0) (getD row 4 0 % 256)
 
-unfoldable pub countsOn : List (List ℕ) → List Counts
-countsOn rows = map (λ (row : List ℕ). countsFrom row) rows
+unfoldable pub countsRow : Counts → List ℕ
+countsRow c = c .steps ∷ c .serial ∷ c .nonce ∷ c .count ∷ c .deep ∷ []
 
 abbrev pub countsIn : List ℕ → ℕ → ℕ → ℕ → ℕ → Counts
 countsIn t steps serial nonce n = counts steps serial nonce n (deepest t 0 0 n)
@@ -49,5 +46,5 @@ varRows stack = map (λ (s : Control). s .vars) stack
 abbrev pub countsAt : List ℕ → Control → Counts
 countsAt t s = countsIn t (s .frame .steps) (s .frame .serial) (s .frame .nonce) (s .count)
 
-unfoldable pub countRows : List ℕ → List Control → List Counts
-countRows t stack = map (λ (s : Control). countsAt t s) stack
+unfoldable pub countRows : List ℕ → List Control → List (List ℕ)
+countRows t stack = map (λ (s : Control). countsRow (countsAt t s)) stack

@@ -13,12 +13,13 @@ use Rattle.rules.specs.Happened.{happenedOn}
 use Rattle.rules.specs.Made.{controlAfter}
 use Rattle.rules.specs.declared.event.Happening.{Happening}
 use Rattle.audit.specs.Models.{soundModel}
-use Rattle.quiet.specs.Quiet.{deepest, allFit, allNear, calm, shallow, listedOf}
-use Rattle.quiet.specs.declared.quiet.Listed.{Listed}
+use Rattle.quiet.specs.Quiet.{deepest, allFit, allNear, calm, shallow, outlineOf}
+use Rattle.quiet.specs.declared.quiet.Outline.{Outline}
+use Rattle.machine.specs.Run.{Left}
 use Rattle.search.specs.Place.{levelOf, pushed, settled}
 use Rattle.search.specs.Answer.{listed, refusedListing, roomFor, answerOf}
 use Rattle.law.specs.Rules.{layoutOf}
-use Rattle.search.specs.Enter.{inBounds, controlAt, Climbed, enterOn}
+use Rattle.search.specs.Enter.{inBounds, controlAt, enterOn}
 use Rattle.search.specs.Turn.{walk, standsAt, Lent, lent, Sheets, sheets, turnOn}
 use Rattle.search.specs.declared.place.Place.{Place}
 use Rattle.search.specs.declared.answer.Kind.the-variants.{Found, End}
@@ -51,10 +52,10 @@ atLast left n bound = pick (ltb left 160) false (leb bound (n + 2))
 
 -- such a schedule, with these slots and count: no code can break the claim, and there is room
 unfoldable pub quietAt : ℕ → ℕ → Task → List ℕ → List ℕ → ℕ → Bool
-quietAt left n k slots lengths count = pick (atLast left n (k .bound)) (calm slots lengths count (k .listed)) false
+quietAt left n k slots lengths count = pick (atLast left n (k .bound)) (calm slots lengths count (k .outline)) false
 
 -- its codes are all plain, by the depths of its terms, or of the operands of its next actions, or by what those come to
-unfoldable pub passesSoon : Bool → ℕ → Listed → List ℕ → List ℕ → List ℕ → Bool
+unfoldable pub passesSoon : Bool → ℕ → Outline → List ℕ → List ℕ → List ℕ → Bool
 passesSoon quiet deep g t slots actions = pick (not quiet) false (pick (shallow deep g) true (allNear t slots actions deep))
 
 unfoldable pub passesLate : Bool → List ℕ → List ℕ → List ℕ → List ℕ → List ℕ → Bool
@@ -81,7 +82,7 @@ enteredLate late r p h stack deeps =
 -- without keeping c where that is plain from its slots and depths alone
 abbrev pub enteredBy : Model → Task → Bool → Lent Turned → Place → Happening → Control → ℕ → ℕ → List Control → List ℕ → Scene
 enteredBy m k quiet r p h c d level stack deeps =
-    pick (passesSoon quiet d (k .listed) (r .table) (c .frame .slots) (m .actions))
+    pick (passesSoon quiet d (k .outline) (r .table) (c .frame .slots) (m .actions))
     (scene (spentAll (r .out .walk)) stack deeps (r .table) (r .records) (r .room))
     (enteredLate
     (passesLate quiet (r .table) (c .frame .slots) (c .values) (c .vars) (m .actions))
@@ -155,7 +156,7 @@ walkFrom t l room m e budget k =
     lentScene (walkOn m k (scene (firstWalk e budget (ltb 0 (roomFor room))) (e .stack) (deepsOf t (e .stack)) t l room))
 
 abbrev pub task : Model → ℕ → Task
-task m bound = record { claim = m .claim; machines = m .«machine_count»; bound = bound; listed = listedOf m }
+task m bound = record { claim = m .claim; machines = m .«machine_count»; bound = bound; outline = outlineOf m }
 
 -- "Bound 1 to 24, else 41"
 unfoldable pub boundFits : ℕ → Bool
@@ -164,7 +165,7 @@ boundFits bound = pick (eqb bound 0) false (leb bound 24)
 abbrev pub listingWalked : Lent Walk → ℕ → Held Listing
 listingWalked r budget = held (listed (r .out .kind) (r .out .found) (budget - r .out .left) (r .out .sized) (r .out .place)) (r .room)
 
-abbrev pub listingEntered : Climbed Entered → Model → ℕ → ℕ → List ℕ → Held Listing
+abbrev pub listingEntered : Left Entered → Model → ℕ → ℕ → List ℕ → Held Listing
 listingEntered e m bound budget room =
     pick (e .out .good) (listingWalked (walkFrom (e .table) (e .records) room m (e .out) budget (task m bound)) budget)
     (held (refusedListing 40) room)

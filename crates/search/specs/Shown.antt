@@ -15,6 +15,7 @@ use Rattle.walk.specs.Walk.{reply}
 use Rattle.walk.specs.Place as P
 use Rattle.walk.specs.Array.{Spot, view}
 use Rattle.walk.specs.List.{Close, full, spent, done, Listed}
+use Rattle.audit.specs.Whole as W
 use Rattle.search.specs.Place.{place, startPlace}
 use Rattle.search.specs.Answer.{listed}
 use Rattle.search.specs.Labels.{labels}
@@ -104,7 +105,5 @@ GoodBudget b = b ≤ 4294967295
 
 -- what the types of a model's arrays say of their lengths, as far as the search needs it
 pub record Arrays (m : Model) : Type 0 where
-  pub lines : length (m .lines) ≡ 512
-  pub threads : length (m .threads) ≡ 8
-  pub locations : length (m .locations) ≡ 32
+  pub tables : W.Arrays m
   pub path : length (m .claim .path) ≡ 4

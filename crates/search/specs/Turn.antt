@@ -7,7 +7,8 @@ use lib.Dec.{eqb, ltb, leb}
 use Rattle.terms.specs.Base.{pick, Held, held}
 use Rattle.terms.specs.Table.{cutTo}
 use Rattle.state.specs.Code.{codesBelow, codeFrom, codeAfter}
-use Rattle.state.specs.Seek.{sightOf, seekFrom}
+use Rattle.state.specs.Early.{sightOf}
+use Rattle.state.specs.Seek.{seekFrom}
 use Rattle.state.specs.declared.control.Control.{Control}
 use Rattle.rules.specs.Happened.{endedOn}
 use Rattle.rules.specs.Work.{noLabels, workOn}
@@ -39,8 +40,8 @@ unfoldable pub reached : ℕ → ℕ → ℕ
 reached next n = codeFrom (codesBelow next + n % 256)
 
 -- one more, as long as the number fits its type
-unfoldable pub oneMore : ℕ → ℕ
-oneMore n = pick (ltb n 4294967295) (n + 1) n
+unfoldable pub oneTryMore : ℕ → ℕ
+oneTryMore n = pick (ltb n 4294967295) (n + 1) n
 
 -- closed at a place, after n tries more
 unfoldable pub closed : Walk → Place → ℕ → Kind → Walk
@@ -51,7 +52,7 @@ unfoldable pub past : Walk → ℕ → ℕ → Walk
 past w next n = walk (settled (atCode (w .place) next)) (w .left - n) (w .sized) (w .found) (w .filled) true End
 
 unfoldable pub oneSized : Walk → Walk
-oneSized v = walk (v .place) (v .left) (oneMore (v .sized)) (v .found) (v .filled) true End
+oneSized v = walk (v .place) (v .left) (oneTryMore (v .sized)) (v .found) (v .filled) true End
 
 -- "the tries refused by 8 or 9" are counted
 unfoldable pub refusedBy : Walk → ℕ → Walk
@@ -65,7 +66,7 @@ abbrev pub foundIn : List ℕ → Walk → ℕ → ℕ → Held Walk
 foundIn room v n filled = held (standsAt v n (v .place) filled (ltb n (roomFor room))) room
 
 unfoldable pub foundOn : List ℕ → Walk → Place → ℕ → Held Walk
-foundOn room v q filled = foundIn (schedulePut room (v .found) q) v (oneMore (v .found)) filled
+foundOn room v q filled = foundIn (schedulePut room (v .found) q) v (oneTryMore (v .found)) filled
 
 -- a turn's outcome: the walk after it, and the step to make where a longer schedule is entered
 abbrev pub turned : Walk → Bool → ℕ → Labels → Turned

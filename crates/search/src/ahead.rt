@@ -26,7 +26,6 @@ use rules::made::slots_made;
 ghost use mathlib.Core.Path.{_≡_};
 ghost use Rattle.terms.specs.Base.{held};
 ghost use Rattle.rules.specs.Made.{layout};
-ghost use Rattle.search.specs.Rows.{countsOn};
 ghost use Rattle.search.specs.Turn.{lent};
 ghost use Rattle.search.specs.Ahead.{others, rows, stood, restRows, noted, enteredRows, advancedRows};
 
@@ -48,10 +47,10 @@ pub fn advance<'a>(
     k: Task,
 ) -> Walk
     ensures { λ r. ⌜ lent
-        (stood r (rows (now (slots .exit)) (others (now (locks .exit)) (now (values .exit)) (now (vars .exit)) (countsOn (now (counts .exit))))))
+        (stood r (rows (now (slots .exit)) (others (now (locks .exit)) (now (values .exit)) (now (vars .exit)) (now (counts .exit)))))
         (now (t .exit)) (now (records .exit)) (now (room .exit))
         ≡ advancedRows (now (t .entry)) (now (records .entry)) (now (room .entry))
-        (rows (now (slots .entry)) (others (now (locks .entry)) (now (values .entry)) (now (vars .entry)) (countsOn (now (counts .entry))))) w
+        (rows (now (slots .entry)) (others (now (locks .entry)) (now (values .entry)) (now (vars .entry)) (now (counts .entry)))) w
         (layout (now (actions .entry)) (now (lengths .entry)) (now (machines .entry)) (now (locations .entry))) k ⌝ }
 {
     let p = w.place;
@@ -110,10 +109,10 @@ fn entered<'a>(
     k: Task,
 ) -> Walk
     ensures { λ v. ⌜ held
-        (stood v (rows (now (slots .exit)) (others (now (locks .exit)) (now (values .exit)) (now (vars .exit)) (countsOn (now (counts .exit))))))
+        (stood v (rows (now (slots .exit)) (others (now (locks .exit)) (now (values .exit)) (now (vars .exit)) (now (counts .exit)))))
         (now (records .exit))
         ≡ enteredRows (now (t .entry)) (now (records .entry))
-        (rows (now (slots .entry)) (others (now (locks .entry)) (now (values .entry)) (now (vars .entry)) (countsOn (now (counts .entry))))) p r
+        (rows (now (slots .entry)) (others (now (locks .entry)) (now (values .entry)) (now (vars .entry)) (now (counts .entry)))) p r
         (layout (now (actions .entry)) (now (lengths .entry)) (now (machines .entry)) (now (locations .entry))) k ⌝ }
 {
     let i = level_of(p.length);
@@ -133,7 +132,7 @@ fn entered<'a>(
         l.program,
     );
     let quiet = quiet_at(w.left, p.length, k, &after, lengths, l.count);
-    if passes_soon(quiet, deep, k.listed, t, &after, actions) {
+    if passes_soon(quiet, deep, k.outline, t, &after, actions) {
         return spent_all(w);
     }
     rest_rows(
@@ -190,15 +189,13 @@ fn rest_rows<'a>(
     machines: &'a [u32; 4],
     r: Turned,
 )
-    ensures { λ _. ⌜ others (now (locks .exit)) (now (values .exit)) (now (vars .exit)) (countsOn (now (counts .exit)))
+    ensures { λ _. ⌜ others (now (locks .exit)) (now (values .exit)) (now (vars .exit)) (now (counts .exit))
         ≡ restRows (now (slots .entry))
-        (others (now (locks .entry)) (now (values .entry)) (now (vars .entry)) (countsOn (now (counts .entry))))
-        length deep
+        (others (now (locks .entry)) (now (values .entry)) (now (vars .entry)) (now (counts .entry))) length deep
         (layout (now (actions .entry)) (now (lengths .entry)) (now (machines .entry)) (now (locations .entry))) r ⌝ }
 {
     let i = level_of(length);
     let j = i + 1;
-    let c = counts_at(&counts[i]);
     let l = r.labels;
     locks[j] = locks[i];
     values[j] = values[i];
@@ -208,7 +205,7 @@ fn rest_rows<'a>(
         &mut locks[j],
         &mut values[j],
         &mut vars[j],
-        counters_of(c),
+        counters_of(counts_at(&counts[i])),
         actions,
         lengths,
         locations,

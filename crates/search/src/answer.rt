@@ -58,8 +58,8 @@ pub fn write_schedule(room: &mut [u8], i: u32, p: Place)
     ensures { λ _. ⌜ now (room .exit) ≡ schedulePut (now (room .entry)) i p ⌝ }
 {
     let codes = p.codes;
-    let from = i as usize * 25;
-    if room.len() < from + 25 {
+    let from = i as usize * Listing::WIDTH;
+    if room.len() < from + Listing::WIDTH {
         return;
     }
     room[from] = p.length;

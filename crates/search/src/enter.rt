@@ -18,7 +18,8 @@ use state::code::is_code;
 use state::control::Control;
 ghost use mathlib.Core.Path.{_≡_};
 ghost use Rattle.terms.specs.Base.{held};
-ghost use Rattle.search.specs.Enter.{inBounds, wentOn, climbed, enterOn};
+ghost use Rattle.machine.specs.Run.{left};
+ghost use Rattle.search.specs.Enter.{inBounds, wentOn, enterOn};
 
 // Whether the place is good, the configurations on the way, and the place itself, zero past its length.
 pub struct Entered {
@@ -47,17 +48,14 @@ pub fn in_bounds(p: Place, bound: u8) -> bool
 }
 
 pub fn enter(t: &mut [u64; 512], records: &mut [u16], m: Model, p: Place) -> Entered
-    ensures { λ r. ⌜ climbed r (now (t .exit)) (now (records .exit)) ≡ enterOn (now (t .entry)) (now (records .entry)) m p ⌝ }
+    ensures { λ r. ⌜ left r (now (t .exit)) (now (records .exit)) ≡ enterOn (now (t .entry)) (now (records .entry)) m p ⌝ }
 {
-    let claim = m.claim;
-    let machines = m.machine_count;
     let s = Control::fresh(m);
     let mut stack = [s; 25];
     let mut place = Place::start();
     let codes = p.codes;
-    let end = p.length;
     let mut i = 0;
-    while i < end {
+    while i < p.length {
         let level = level_of(i);
         let code = code_in(codes, i);
         let r = try_step(
@@ -66,11 +64,11 @@ pub fn enter(t: &mut [u64; 512], records: &mut [u16], m: Model, p: Place) -> Ent
             &m.actions,
             &m.lengths,
             &m.machines,
-            machines,
+            m.machine_count,
             &m.locations,
             code,
         );
-        let g = went(records, i, r, claim);
+        let g = went(records, i, r, m.claim);
         let c = g.control;
         stack[level + 1] = c;
         place = pushed(place, code);

@@ -7,14 +7,14 @@ use crate::turn::less;
 use quiet::depths::all_fit;
 use quiet::depths::all_near;
 use quiet::depths::deepest;
-use quiet::quiet::Listed;
+use quiet::quiet::Outline;
 use quiet::quiet::calm;
 use quiet::quiet::shallow;
 use rules::made::Counters;
 use state::code::Code;
 use state::control::Control;
 ghost use mathlib.Core.Path.{_≡_};
-ghost use Rattle.search.specs.Rows.{countsFrom, countsOn, countsIn, countersOf, countsOf, slotRows, lockRows, valueRows, varRows, countRows};
+ghost use Rattle.search.specs.Rows.{countsFrom, countsRow, countsIn, countersOf, countsOf, slotRows, lockRows, valueRows, varRows, countRows};
 ghost use Rattle.search.specs.Search.{atLast, quietAt, passesSoon, passesLate, spentAll};
 
 // Steps made, next serial, next nonce, terms in the table, and the depth of the deepest of them.
@@ -40,7 +40,7 @@ pub fn counts_at(row: &[u16; 5]) -> Counts
 }
 
 pub fn counts_row(c: Counts) -> [u16; 5]
-    ensures { λ r. ⌜ countsFrom r ≡ c ⌝ }
+    ensures { λ r. ⌜ r ≡ countsRow c ⌝ }
 {
     [c.steps, c.serial, c.nonce, c.count, c.deep as u16]
 }
@@ -141,7 +141,7 @@ pub fn var_rows(stack: [Control; 25]) -> [[u16; 192]; 25]
 }
 
 pub fn count_rows(t: &[u64; 512], stack: [Control; 25]) -> [[u16; 5]; 25]
-    ensures { λ r. ⌜ countsOn r ≡ countRows (now (t .entry)) stack ⌝ }
+    ensures { λ r. ⌜ r ≡ countRows (now (t .entry)) stack ⌝ }
 {
     let mut rows = [[0u16; 5]; 25];
     let mut i = 0;
@@ -176,7 +176,7 @@ pub fn quiet_at<'a>(
     ensures { λ r. ⌜ r ≡ quietAt left length k (now (slots .entry)) (now (lengths .entry)) count ⌝ }
 {
     if at_last(left, length, k.bound) {
-        calm(slots, lengths, count, k.listed)
+        calm(slots, lengths, count, k.outline)
     } else {
         false
     }
@@ -186,17 +186,17 @@ pub fn quiet_at<'a>(
 pub fn passes_soon<'a>(
     quiet: bool,
     deep: u8,
-    listed: Listed,
+    outline: Outline,
     t: &'a [u64; 512],
     slots: &'a [u64; 12],
     actions: &'a [u64; 512],
 ) -> bool
-    ensures { λ r. ⌜ r ≡ passesSoon quiet deep listed (now (t .entry)) (now (slots .entry)) (now (actions .entry)) ⌝ }
+    ensures { λ r. ⌜ r ≡ passesSoon quiet deep outline (now (t .entry)) (now (slots .entry)) (now (actions .entry)) ⌝ }
 {
     if !quiet {
         return false;
     }
-    if shallow(deep, listed) {
+    if shallow(deep, outline) {
         return true;
     }
     all_near(t, slots, actions, deep)

@@ -19,15 +19,15 @@ use crate::rows::value_rows;
 use crate::rows::var_rows;
 use crate::turn::Task;
 use crate::turn::Walk;
+use crate::turn::less;
 use audit::models::sound_model;
 use model::records::Model;
 use quiet::depths::deepest;
-use quiet::quiet::Listed;
+use quiet::quiet::Outline;
 ghost use mathlib.Core.Path.{_≡_};
-ghost use Prim.Native.Nat.{_-_};
 ghost use lib.ListN.{drop};
 ghost use Rattle.terms.specs.Base.{held};
-ghost use Rattle.quiet.specs.Quiet.{listedOf};
+ghost use Rattle.quiet.specs.Quiet.{outlineOf};
 ghost use Rattle.search.specs.Turn.{lent};
 ghost use Rattle.search.specs.Search.{firstWalk, walkFrom, boundFits, listingOn, searchOn};
 
@@ -87,7 +87,7 @@ pub fn listing(m: Model, bound: u8, place: Place, budget: u32, room: &mut [u8]) 
         claim,
         machines: m.machine_count,
         bound,
-        listed: listed_in(m),
+        outline: outline_of(m),
     };
     let w = walk(&mut t, records, room, m, e, budget, k);
     let kind = w.kind;
@@ -95,19 +95,19 @@ pub fn listing(m: Model, bound: u8, place: Place, budget: u32, room: &mut [u8]) 
     Listing {
         kind,
         found: w.found,
-        tries: spent(budget, w.left),
+        tries: less(budget, w.left),
         sized: w.sized,
         place: after,
     }
 }
 
 // What the tests for plain codes go by.
-fn listed_in(m: Model) -> Listed
-    ensures { λ r. ⌜ r ≡ listedOf m ⌝ }
+fn outline_of(m: Model) -> Outline
+    ensures { λ r. ⌜ r ≡ outlineOf m ⌝ }
 {
     let c = m.claim;
     let lines = m.lines;
-    Listed {
+    Outline {
         program: c.program,
         count: m.count,
         deep: deepest(&lines, 0, 0, m.count),
@@ -121,12 +121,6 @@ fn bound_fits(bound: u8) -> bool
         return false;
     }
     bound <= Place::BOUND
-}
-
-fn spent(budget: u32, left: u32) -> u32
-    ensures { λ r. ⌜ r ≡ budget - left ⌝ }
-{
-    if left < budget { budget - left } else { 0 }
 }
 
 // The walk before its first turn.

@@ -10,7 +10,7 @@ use crate::place::settled;
 use crate::rows::Counts;
 use machine::claim::broken_by;
 use model::records::Claim;
-use quiet::quiet::Listed;
+use quiet::quiet::Outline;
 use rules::happened::ended_by;
 use rules::work::Labels;
 use rules::work::Worked;
@@ -26,7 +26,7 @@ ghost use mathlib.Core.Path.{_≡_};
 ghost use Prim.Native.Nat.{_-_};
 ghost use Rattle.terms.specs.Base.{held};
 ghost use Rattle.search.specs.Rows.{controlFrom};
-ghost use Rattle.search.specs.Turn.{between, reached, oneMore, closed, past, oneSized, refusedBy, standsAt, foundOn, still, entering, lent, sheets, turnOn};
+ghost use Rattle.search.specs.Turn.{between, reached, oneTryMore, closed, past, oneSized, refusedBy, standsAt, foundOn, still, entering, lent, sheets, turnOn};
 
 // The place, always one with a code left or the end; budget left; tries refused for size; schedules found; terms in the
 // table as the last try left it; whether the walk goes on, and what it answers where it does not.
@@ -53,7 +53,7 @@ pub struct Task {
     pub claim: Claim,
     pub machines: u8,
     pub bound: u8,
-    pub listed: Listed,
+    pub outline: Outline,
 }
 
 // A turn at a schedule whose configuration is lent: slots, locks, values and variables, and its counters.
@@ -186,6 +186,7 @@ pub fn past(w: Walk, next: u16, tries: u32) -> Walk
     }
 }
 
+// What is left of a number, never below 0.
 pub fn less(m: u32, n: u32) -> u32
     ensures { λ r. ⌜ r ≡ m - n ⌝ }
 {
@@ -210,7 +211,7 @@ fn one_sized(v: Walk) -> Walk
     Walk {
         place,
         left: v.left,
-        sized: one_more(v.sized),
+        sized: one_try_more(v.sized),
         found: v.found,
         filled: v.filled,
         going: true,
@@ -219,8 +220,8 @@ fn one_sized(v: Walk) -> Walk
 }
 
 // One more; a count of tries never passes the budget, so it never comes to the end of its type.
-fn one_more(n: u32) -> u32
-    ensures { λ r. ⌜ r ≡ oneMore n ⌝ }
+fn one_try_more(n: u32) -> u32
+    ensures { λ r. ⌜ r ≡ oneTryMore n ⌝ }
 {
     if n < 4294967295 { n + 1 } else { n }
 }
@@ -230,7 +231,7 @@ fn found(room: &mut [u8], v: Walk, q: Place, filled: u16) -> Walk
     ensures { λ r. ⌜ held r (now (room .exit)) ≡ foundOn (now (room .entry)) v q filled ⌝ }
 {
     write_schedule(room, v.found, q);
-    let n = one_more(v.found);
+    let n = one_try_more(v.found);
     let place = v.place;
     stands_at(v, n, place, filled, (n as usize) < room_for(room))
 }

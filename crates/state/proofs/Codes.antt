@@ -45,7 +45,7 @@ module _ (c : ℕ) where
   unfolding isCode
   code-high h k = rw (le-ltb c 12 (omega arith), le-ltb c 16 h, lt-ltb c 164 k)
 
-  code-over : 164 ≤ c → isCode c ≡ false
+  pub code-over : 164 ≤ c → isCode c ≡ false
   unfolding isCode
   code-over h = rw (le-ltb c 12 (omega arith), le-ltb c 16 (omega arith), le-ltb c 164 h)
 

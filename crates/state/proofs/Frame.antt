@@ -1,4 +1,4 @@
--- The frame's part of "a permitted step keeps soundness": an action, a jump, a hand-over, a late launch and a reset of a
+-- The frame's part of what keeps a configuration sound: an action, a jump, a hand-over, a late launch and a reset of a
 -- sound frame give a sound frame. And what a late launch and a reset do to each lock.
 use Prim.Native.Nat.{ℕ, _+_, _<_, _≤_}
 use mathlib.Core.Bool.{Bool, true, false}

@@ -16,7 +16,7 @@ use Rattle.model.specs.declared.records.Listed.{Listed}
 use Rattle.model.proofs.Pack.{SmallThread, thread-small}
 use Rattle.state.specs.Slot.{thread, packSlot, slotIn}
 use Rattle.state.specs.Control.{upFrom, freshSlot, freshSlots, freshFrame}
-use Rattle.state.specs.FrameSound.{oneOn, liveOn, listedOn, mostOn, ThreadSound, SlotSound, FrameSound, Grounds}
+use Rattle.state.specs.FrameSound.{oneOn, liveOn, listedOn, mostAmong, mostOn, ThreadSound, SlotSound, FrameSound, Grounds}
 use Rattle.state.specs.declared.slot.Slot.{Slot}
 use Rattle.state.proofs.Laws.{up-at, up-long}
 use Rattle.state.proofs.Pack.{SmallSlot, slot-packed}
@@ -122,7 +122,7 @@ module _ (m : Model) (g : Grounds m) where
   counted k (suc c) i = count-by (leb (m .«thread_count») i) k i (liveOn k (upFrom (freshSlot (m .threads) (m .«thread_count»)) c (i + 1))) refl (counted k c (i + 1))
 
   fresh-fit : (k : ℕ) → liveOn k fresh ≤ mostOn m k
-  unfolding mostOn freshSlots
+  unfolding mostAmong freshSlots
   fresh-fit k = omega (arith, counted k 12 0)
 
   free-by : (b : Bool) (i : ℕ) → ltb i 32 ≡ b → getD {A = ℕ} (replicate 32 0) i 0 ≡ 0

@@ -15,7 +15,7 @@ use Rattle.model.specs.declared.records.Action.{Action}
 use Rattle.model.proofs.Tests.{also-never}
 use Rattle.state.specs.Lock.{packLock, lockIn, heldBy}
 use Rattle.state.specs.Each.{each2}
-use Rattle.state.specs.Moves.{withLock, locked}
+use Rattle.state.specs.Moves.{withAt, locked}
 use Rattle.state.specs.Launch.{isDynamic, lockLaunched, locksLaunched}
 use Rattle.state.specs.Reset.{lockReset, locksReset}
 use Rattle.state.specs.FrameSound.{LockSound, LocksSound, Grounds}
@@ -25,7 +25,7 @@ use Rattle.state.proofs.Threads.At.{here, there}
 
 -- element by element
 module _ (f : ℕ → ℕ → ℕ) where
-  each-long : (l r : List ℕ) → length (each2 f l r) ≡ length l
+  pub each-long : (l r : List ℕ) → length (each2 f l r) ≡ length l
   unfolding each2
   each-long [] r = refl
   each-long (x ∷ xs) r = ap suc (each-long xs (drop 1 r))
@@ -76,12 +76,12 @@ module _ (m : Model) where
   }
   with-by false next l i n e s t = s
 
-  with-lock-sound : (next : ℕ) (l : List ℕ) (i n : ℕ) → LocksSound m next l → LockSound m next i n → LocksSound m next (withLock l i n)
-  unfolding withLock
+  with-lock-sound : (next : ℕ) (l : List ℕ) (i n : ℕ) → LocksSound m next l → LockSound m next i n → LocksSound m next (withAt l i n)
+  unfolding withAt
   with-lock-sound next l i n s t = with-by (ltb i 32) next l i n refl s t
 
   locked-by : (b c : Bool) (next : ℕ) (l : List ℕ) (i serial : ℕ) → LocksSound m next l → serial < next → serial < 65536 → (b ≡ true → i < m .«location_count»)
-      → LocksSound m next (pick b (withLock l i (heldBy serial)) (pick c (withLock l i 0) l))
+      → LocksSound m next (pick b (withAt l i (heldBy serial)) (pick c (withAt l i 0) l))
   locked-by true c next l i serial s h k p = with-lock-sound next l i (heldBy serial) s (held-sound next i serial h k (p refl))
   locked-by false true next l i serial s h k p = with-lock-sound next l i 0 s (free-lock next i)
   locked-by false false next l i serial s h k p = s

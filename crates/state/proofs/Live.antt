@@ -12,7 +12,7 @@ use Rattle.model.specs.Records.{threadIn}
 use Rattle.model.specs.declared.records.Model.{Model}
 use Rattle.state.specs.Slot.{slotIn, lowestIn, lowestFree}
 use Rattle.state.specs.Reset.{isOn, slotReset, slotsReset}
-use Rattle.state.specs.FrameSound.{oneOn, liveOn, listedOn, mostOn, Grounds}
+use Rattle.state.specs.FrameSound.{oneOn, liveOn, listedOn, mostAmong, mostOn, Grounds}
 
 -- one number: free, or live on a machine
 pub on-none : (k n : ℕ) → slotIn n .live ≡ false → oneOn k n ≡ 0
@@ -151,7 +151,7 @@ listed-four [] = omega arith
 listed-four (n ∷ ns) = omega (arith, listed-one (threadIn n .machine), listed-four ns)
 
 pub most-eleven : (m : Model) → Grounds m → mostOn m 0 + mostOn m 1 + mostOn m 2 + mostOn m 3 ≤ 11
-unfolding mostOn
+unfolding mostAmong
 most-eleven m g =
     let l : List ℕ = take (m .«thread_count») (m .threads) in
     omega (arith, listed-four l, length-take (m .«thread_count») (m .threads))

@@ -13,7 +13,7 @@ use Rattle.terms.specs.Base.{pick, also}
 use Rattle.model.specs.Fields.{either}
 use Rattle.state.specs.Code.{wayOf}
 use Rattle.state.specs.Reason.{reason, firstOf}
-use Rattle.state.specs.Early.{Sight, threadIn, actionOf, refusalOf, earlyOf}
+use Rattle.state.specs.Early.{Sight, threadOf, actionOf, refusalOf, earlyOf}
 use Rattle.state.specs.Seek.{First, seekBy, seekIn, seekFrom, sends, senderIn, nextSender, silentFrom, refusedFrom}
 use Rattle.state.specs.declared.code.Way.the-variants.{Hand}
 
@@ -60,7 +60,7 @@ row-by true true false false false p h z = omega (arith, z)
 pub hand-refused : (g : Sight) (i j : ℕ) → sends (g .slots) (g .actions) i ≡ false → refusalOf g (Hand i j) ≡ 0 → ⊥
 unfolding refusalOf sends
 hand-refused g i j h z =
-    row-by (threadIn g i .live) (threadIn g j .live) (eqb i j) (leb 60000 (g .steps)) (eqb (actionOf g i .op) 5) (eqb (actionOf g j .op) 6) h z
+    row-by (threadOf g i .live) (threadOf g j .live) (eqb i j) (leb 60000 (g .steps)) (eqb (actionOf g i .op) 5) (eqb (actionOf g j .op) 6) h z
 
 hand-way : (k : ℕ) → 16 ≤ k → k < 160 → wayOf k ≡ Hand ((k - 16) / 12) ((k - 16) % 12)
 unfolding wayOf

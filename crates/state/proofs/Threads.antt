@@ -15,7 +15,7 @@ use Rattle.state.specs.Slot.{thread, packSlot, slotIn, lowestFree}
 use Rattle.state.specs.Moves.{withSlot, isLast, movedOn, jumpedTo}
 use Rattle.state.specs.Launch.{threadLaunched}
 use Rattle.state.specs.Reset.{isOn, slotReset, slotsReset, bootThread}
-use Rattle.state.specs.FrameSound.{oneOn, liveOn, mostOn, ThreadSound, SlotSound, SlotsSound, Grounds}
+use Rattle.state.specs.FrameSound.{oneOn, liveOn, mostAmong, mostOn, ThreadSound, SlotSound, SlotsSound, Grounds}
 use Rattle.state.specs.declared.slot.Slot.{Slot}
 use Rattle.state.proofs.Pack.{SmallSlot, slot-small, slot-packed}
 use Rattle.state.proofs.Live.{on-none, on-live, zero-free, on-same, live-set, live-ended, live-kept, free-there, most-eleven, room}
@@ -216,7 +216,7 @@ twelve-suffice m g next l s =
 
 -- the boot thread
 pub one-most : (m : Model) (k : ℕ) → 1 ≤ mostOn m k
-unfolding mostOn
+unfolding mostAmong
 one-most m k = omega arith
 
 module _ (m : Model) (g : Grounds m) (next : ℕ) (small : next ≤ 65535) (l : List ℕ) (s : SlotsSound m (mostOn m) next l) (k : ℕ) (kk : k < m .«machine_count») where

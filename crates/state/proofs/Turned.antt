@@ -12,7 +12,8 @@ use Rattle.terms.proofs.Meaning.{also-left, also-right}
 use Rattle.model.proofs.Tests.{not-both, neither}
 use Rattle.state.specs.Code.{wayOf}
 use Rattle.state.specs.Reason.{Reason, firstOf, FirstIs, here, later, NoneHolds, done, next}
-use Rattle.state.specs.Early.{Sight, threadIn, actionOf, takesLocation, isElsewhere, lockedOut, reasons, refusalOf, earlyOf}
+use Rattle.model.specs.Fields.{namesLocation}
+use Rattle.state.specs.Early.{Sight, threadOf, actionOf, isElsewhere, lockedOut, reasons, refusalOf, earlyOf}
 use Rattle.state.specs.declared.code.Way.{Way}
 use Rattle.state.specs.declared.code.Way.the-variants.{Advance, Hand, Reset}
 
@@ -88,20 +89,17 @@ early-seven g c = first-most 7 (reasons g (wayOf c)) refl
 -- What is known of a step that none of them refuses
 
 pub record LetAdvance (g : Sight) (i : ℕ) : Type 0 where
-  pub live : threadIn g i .live ≡ true
+  pub live : threadOf g i .live ≡ true
   pub steps : g .steps < 60000
-  pub no-send : actionOf g i .op ≡ 5 → ⊥
-  pub no-receive : actionOf g i .op ≡ 6 → ⊥
-  pub near : takesLocation (actionOf g i .op) ≡ true → isElsewhere (g .locations) (actionOf g i .loc) (threadIn g i .machine) ≡ false
-  pub free : takesLocation (actionOf g i .op) ≡ true → lockedOut (g .locks) (actionOf g i) (threadIn g i .serial) ≡ false
+  pub near : namesLocation (actionOf g i .op) ≡ true → isElsewhere (g .locations) (actionOf g i .loc) (threadOf g i .machine) ≡ false
+  pub free : namesLocation (actionOf g i .op) ≡ true → lockedOut (g .locks) (actionOf g i) (threadOf g i .serial) ≡ false
 
 pub record LetHand (g : Sight) (i j : ℕ) : Type 0 where
-  pub sender : threadIn g i .live ≡ true
-  pub receiver : threadIn g j .live ≡ true
+  pub sender : threadOf g i .live ≡ true
+  pub receiver : threadOf g j .live ≡ true
   pub two : i ≡ j → ⊥
   pub steps : g .steps < 60000
   pub sends : actionOf g i .op ≡ 5
-  pub receives : actionOf g j .op ≡ 6
 
 pub record LetReset (g : Sight) (m : ℕ) : Type 0 where
   pub machine : m < g .machines
@@ -110,20 +108,18 @@ pub record LetReset (g : Sight) (m : ℕ) : Type 0 where
 none-advance : (g : Sight) (i : ℕ) → NoneHolds (reasons g (Advance i)) → LetAdvance g i
 none-advance g i (next p (next q (next r (next s (next t (next u (next v done))))))) =
     let a = actionOf g i in
-    let l : Bool = takesLocation (a .op) in
+    let l : Bool = namesLocation (a .op) in
     record {
-      live = not-false (threadIn g i .live) q;
+      live = not-false (threadOf g i .live) q;
       steps = leb-false 60000 (g .steps) s;
-      no-send = eqb-false (a .op) 5 (neither (eqb (a .op) 5) (eqb (a .op) 6) t .0);
-      no-receive = eqb-false (a .op) 6 (neither (eqb (a .op) 5) (eqb (a .op) 6) t .1);
-      near = not-both l (isElsewhere (g .locations) (a .loc) (threadIn g i .machine)) u;
-      free = not-both l (lockedOut (g .locks) a (threadIn g i .serial)) v;
+      near = not-both l (isElsewhere (g .locations) (a .loc) (threadOf g i .machine)) u;
+      free = not-both l (lockedOut (g .locks) a (threadOf g i .serial)) v;
     }
 
 none-hand : (g : Sight) (i j : ℕ) → NoneHolds (reasons g (Hand i j)) → LetHand g i j
 none-hand g i j (next p (next q (next r (next s (next t (next u (next v done))))))) =
-    let a : Bool = threadIn g i .live in
-    let b : Bool = threadIn g j .live in
+    let a : Bool = threadOf g i .live in
+    let b : Bool = threadOf g j .live in
     let x : Bool = eqb (actionOf g i .op) 5 in
     let y : Bool = eqb (actionOf g j .op) 6 in
     record {
@@ -132,7 +128,6 @@ none-hand g i j (next p (next q (next r (next s (next t (next u (next v done))))
       two = eqb-false i j r;
       steps = leb-false 60000 (g .steps) s;
       sends = eqb-true (actionOf g i .op) 5 (not-false x (neither (not x) (not y) t .0));
-      receives = eqb-true (actionOf g j .op) 6 (not-false y (neither (not x) (not y) t .1));
     }
 
 none-reset : (g : Sight) (m : ℕ) → NoneHolds (reasons g (Reset m)) → LetReset g m

@@ -1,5 +1,5 @@
--- Step codes: "Codes 0 to 11 advance that slot, send and receive apart. Code 16 + 12s + r hands the value sent by slot s
--- to slot r, both moving. Code 160 + m resets machine m. 12 to 15 and 164 upwards are none."
+-- Step codes: "Codes 0 to 11 advance that slot, send and receive apart (5). Code 16 + 12s + r hands the value sent by slot
+-- s to slot r, both moving. Code 160 + m resets machine m. 12 to 15 and 164 upwards are none."
 use Prim.Native.Nat.{ℕ, _+_, _-_, _/_, _%_, _≤_}
 use mathlib.Core.Bool.{Bool, true, false}
 use mathlib.Core.Path.{_≡_}

@@ -3,9 +3,9 @@
 use Prim.Native.Nat.{ℕ}
 use mathlib.Core.Bool.{Bool, true, false, not}
 use mathlib.Core.List.{List, [], _∷_}
-use lib.Dec.{eqb, ltb, leb}
+use lib.Dec.{eqb, leb}
 use Rattle.terms.specs.Base.{pick, also}
-use Rattle.model.specs.Fields.{either}
+use Rattle.model.specs.Fields.{either, namesLocation}
 use Rattle.model.specs.Records.{actionAt, locationAt}
 use Rattle.model.specs.declared.records.Action.{Action}
 use Rattle.state.specs.Reason.{Reason, reason, firstOf}
@@ -13,6 +13,7 @@ use Rattle.state.specs.Slot.{slotAt}
 use Rattle.state.specs.Lock.{lockAt, barsTo, isHeldBy}
 use Rattle.state.specs.Code.{wayOf}
 use Rattle.state.specs.declared.slot.Slot.{Slot}
+use Rattle.state.specs.declared.control.Frame.{Frame}
 use Rattle.state.specs.declared.code.Way.{Way}
 use Rattle.state.specs.declared.code.Way.the-variants.{Nothing, Advance, Hand, Reset}
 
@@ -29,19 +30,19 @@ abbrev pub sight : List ℕ → List ℕ → ℕ → List ℕ → List ℕ → �
 sight slots locks steps actions locations machines =
     record { slots = slots; locks = locks; steps = steps; actions = actions; locations = locations; machines = machines }
 
+-- what is looked at in a frame
+abbrev pub sightOf : Frame → List ℕ → List ℕ → ℕ → Sight
+sightOf f actions locations machines = sight (f .slots) (f .locks) (f .steps) actions locations machines
+
 -- the action that a thread stands before
 unfoldable pub nextAction : List ℕ → Slot → Action
 nextAction actions s = actionAt actions (s .program) (s .position)
 
-abbrev pub threadIn : Sight → ℕ → Slot
-threadIn g i = slotAt (g .slots) i
+abbrev pub threadOf : Sight → ℕ → Slot
+threadOf g i = slotAt (g .slots) i
 
 abbrev pub actionOf : Sight → ℕ → Action
-actionOf g i = nextAction (g .actions) (threadIn g i)
-
--- read, write, extend, lock, unlock: "6 is asked of ops 0 to 4"
-unfoldable pub takesLocation : ℕ → Bool
-takesLocation op = ltb op 5
+actionOf g i = nextAction (g .actions) (threadOf g i)
 
 unfoldable pub isElsewhere : List ℕ → ℕ → ℕ → Bool
 isElsewhere locations loc machine = not (eqb (locationAt locations loc .machine) machine)
@@ -63,8 +64,8 @@ notCode (Reset m) = false
 -- 2, "slot empty, or no such machine"
 abbrev pub isMissing : Sight → Way → Bool
 isMissing g Nothing = false
-isMissing g (Advance i) = not (threadIn g i .live)
-isMissing g (Hand i j) = either (not (threadIn g i .live)) (not (threadIn g j .live))
+isMissing g (Advance i) = not (threadOf g i .live)
+isMissing g (Hand i j) = either (not (threadOf g i .live)) (not (threadOf g j .live))
 isMissing g (Reset m) = leb (g .machines) m
 
 -- 3, "sender and receiver are one slot"
@@ -85,17 +86,17 @@ isOther g (Advance i) = either (eqb (actionOf g i .op) 5) (eqb (actionOf g i .op
 isOther g (Hand i j) = either (not (eqb (actionOf g i .op) 5)) (not (eqb (actionOf g j .op) 6))
 isOther g (Reset m) = false
 
--- 6, "location on another machine"
+-- 6, "location on another machine": 6 and 7 are asked of actions that name a location alone
 abbrev pub isAway : Sight → Way → Bool
 isAway g Nothing = false
-isAway g (Advance i) = also (takesLocation (actionOf g i .op)) (isElsewhere (g .locations) (actionOf g i .loc) (threadIn g i .machine))
+isAway g (Advance i) = also (namesLocation (actionOf g i .op)) (isElsewhere (g .locations) (actionOf g i .loc) (threadOf g i .machine))
 isAway g (Hand i j) = false
 isAway g (Reset m) = false
 
 -- 7, "locked by another; or unlock of a lock not held"
 abbrev pub isLocked : Sight → Way → Bool
 isLocked g Nothing = false
-isLocked g (Advance i) = also (takesLocation (actionOf g i .op)) (lockedOut (g .locks) (actionOf g i) (threadIn g i .serial))
+isLocked g (Advance i) = also (namesLocation (actionOf g i .op)) (lockedOut (g .locks) (actionOf g i) (threadOf g i .serial))
 isLocked g (Hand i j) = false
 isLocked g (Reset m) = false
 

@@ -29,9 +29,13 @@ unfoldable pub listedOn : ℕ → List ℕ → ℕ
 listedOn k [] = 0
 listedOn k (n ∷ ns) = pick (eqb (threadIn n .machine) k) 1 0 + listedOn k ns
 
--- "at most the listed number, or 1 if none was listed"
-unfoldable pub mostOn : Model → ℕ → ℕ
-mostOn m k = max 1 (listedOn k (take (m .«thread_count») (m .threads)))
+-- "at most the listed number, or 1 if none was listed": of machine k, where the threads of a list are listed
+unfoldable pub mostAmong : List ℕ → ℕ → ℕ
+mostAmong l k = max 1 (listedOn k l)
+
+-- and for a model
+abbrev pub mostOn : Model → ℕ → ℕ
+mostOn m k = mostAmong (take (m .«thread_count») (m .threads)) k
 
 -- a live thread, the next serial being given: its references name something, and it stands before its program's end
 pub record ThreadSound (m : Model) (next : ℕ) (s : Slot) : Type 0 where
@@ -71,7 +75,7 @@ pub record FrameSound (m : Model) (f : Frame) : Type 0 where
   pub serial : f .serial ≤ 8 + f .steps
   pub nonce : f .nonce ≤ f .steps
 
--- what the frame owes to a sound model
+-- what the frame's theorems ask of a model
 pub record Grounds (m : Model) : Type 0 where
   pub machines : m .«machine_count» ≤ 4
   pub programs : m .programs ≤ 32

@@ -1,6 +1,6 @@
 -- What the contracts of this crate cite, beside document 01, sections 'Programs, machines, threads', 'Step codes' and
--- 'Turned down'. Labels stand in a configuration's values and variables alone. To be read in this order. FrameSound is
--- cited by the theorems alone.
+-- 'Turned down'. Labels stand in a configuration's values and variables alone. To be read in this order. Hand is cited by
+-- the crate above, FrameSound by the theorems alone.
 pub mod Slot
 pub mod Lock
 pub mod Code

@@ -14,18 +14,19 @@ use Rattle.state.specs.Control.{oneMore}
 use Rattle.state.specs.declared.slot.Slot.{Slot}
 use Rattle.state.specs.declared.control.Frame.{Frame}
 
--- the twelve slots, or the thirty-two locks, with another number at a place; as they are where there is no such place
+-- the twelve slots with another number at a place; as they are where there is no such place
 unfoldable pub withSlot : List ℕ → ℕ → ℕ → List ℕ
 withSlot l i n = pick (ltb i 12) (set l i n) l
 
-unfoldable pub withLock : List ℕ → ℕ → ℕ → List ℕ
-withLock l i n = pick (ltb i 32) (set l i n) l
+-- the same of what the thirty-two locations have: their locks, and their values, which may be of any type
+unfoldable pub withAt : {A : Type 0} → List A → ℕ → A → List A
+withAt l loc v = pick (ltb loc 32) (set l loc v) l
 
 -- lock (3) takes the location for this thread, unlock (4) frees it
 unfoldable pub locked : List ℕ → Action → ℕ → List ℕ
 locked l a serial =
-    pick (eqb (a .op) 3) (withLock l (a .loc) (heldBy serial))
-    (pick (eqb (a .op) 4) (withLock l (a .loc) 0)
+    pick (eqb (a .op) 3) (withAt l (a .loc) (heldBy serial))
+    (pick (eqb (a .op) 4) (withAt l (a .loc) 0)
     l)
 
 -- the thread stands before its last action

@@ -6,9 +6,8 @@ use mathlib.Core.List.{List}
 use lib.Dec.{eqb, ltb, leb}
 use Rattle.terms.specs.Base.{pick, also}
 use Rattle.state.specs.Slot.{slotAt}
-use Rattle.state.specs.Early.{Sight, sight, nextAction, earlyOf}
+use Rattle.state.specs.Early.{Sight, nextAction, earlyOf}
 use Rattle.state.specs.declared.slot.Slot.{Slot}
-use Rattle.state.specs.declared.control.Frame.{Frame}
 
 abbrev pub seekBy : Bool → ℕ → (ℕ → ℕ) → ℕ
 seekBy true c rest = c
@@ -29,10 +28,6 @@ pub record First (g : Sight) (c r : ℕ) : Type 0 where
   pub given : r < 164 → earlyOf g r ≡ 0
   pub on : c ≤ 164 → c ≤ r
   pub small : r ≤ 164
-
--- what is looked at in a frame
-abbrev pub sightOf : Frame → List ℕ → List ℕ → ℕ → Sight
-sightOf f actions locations machines = sight (f .slots) (f .locks) (f .steps) actions locations machines
 
 -- the slot's thread stands before a send
 abbrev pub sendsBy : Slot → List ℕ → Bool

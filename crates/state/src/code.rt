@@ -3,9 +3,7 @@
 ghost use mathlib.Core.Path.{_≡_};
 ghost use Rattle.state.specs.Code.{wayOf, isCode, Below, From, After};
 
-pub struct Code {
-    pub number: u16,
-}
+pub struct Code {}
 
 impl Code {
     // The first number past all codes: as the next code of a place it means none left.
@@ -37,7 +35,7 @@ pub fn way_of(code: u16) -> Way
         let receiver = ((code - 16) % 12) as u8;
         return Way::Hand(sender, receiver);
     }
-    if code < 164 {
+    if code < Code::NONE {
         let machine = (code - 160) as u8;
         return Way::Reset(machine);
     }
@@ -54,7 +52,7 @@ pub fn is_code(code: u16) -> bool
     if code < 16 {
         return false;
     }
-    code < 164
+    code < Code::NONE
 }
 
 // How many codes stand below a number.
@@ -67,10 +65,10 @@ pub fn codes_below(number: u16) -> u16
     if number < 16 {
         return 12;
     }
-    if number < 164 {
+    if number < Code::NONE {
         return number - 4;
     }
-    160
+    Code::ALL
 }
 
 // The code with that many codes below it, 164 where there is none.
@@ -80,10 +78,10 @@ pub fn code_from(below: u16) -> u16
     if below < 12 {
         return below;
     }
-    if below < 160 {
+    if below < Code::ALL {
         return below + 4;
     }
-    164
+    Code::NONE
 }
 
 // The code after a code, 164 after the last one.
@@ -99,5 +97,5 @@ pub fn code_after(code: u16) -> u16
     if code < 163 {
         return code + 1;
     }
-    164
+    Code::NONE
 }

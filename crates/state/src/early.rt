@@ -1,5 +1,5 @@
 // Refusals 1 to 7: what can be said of a code by reading threads, locks and the model. 0 means that none of them
-// holds. Each is the first of its list whose reason holds.
+// holds. The number is that of the first reason that holds.
 use crate::code::Way;
 use crate::code::way_of;
 use crate::control::Control;
@@ -8,13 +8,14 @@ use crate::lock::is_held_by;
 use crate::lock::lock_at;
 use crate::slot::Slot;
 use crate::slot::slot_at;
+use model::fields::names_location;
 use model::records::Action;
 use model::records::action_at;
 use model::records::location_at;
 ghost use mathlib.Core.Path.{_≡_};
 ghost use mathlib.Core.List.{[]};
 ghost use Rattle.state.specs.declared.code.Way.the-variants as Ways;
-ghost use Rattle.state.specs.Early.{sight, nextAction, takesLocation, isElsewhere, lockedOut, refusalOf, earlyOf};
+ghost use Rattle.state.specs.Early.{sight, nextAction, isElsewhere, lockedOut, refusalOf, earlyOf};
 
 pub fn early<'a, 'b>(
     slots: &'a [u64; 12],
@@ -60,7 +61,7 @@ fn early_advance<'a, 'b>(
     if a.op == 6 {
         return 5;
     }
-    if !takes_location(a.op) {
+    if !names_location(a.op) {
         return 0;
     }
     if elsewhere(locations, a.loc, s.machine) {
@@ -117,13 +118,6 @@ pub fn next_action(actions: &[u64; 512], s: Slot) -> Action
     ensures { λ r. ⌜ r ≡ nextAction (now (actions .entry)) s ⌝ }
 {
     action_at(actions, s.program, s.position)
-}
-
-// The action's loc field names a location: read, write, extend, lock, unlock.
-pub fn takes_location(op: u8) -> bool
-    ensures { λ r. ⌜ r ≡ takesLocation op ⌝ }
-{
-    op < 5
 }
 
 fn elsewhere(locations: &[u32; 32], loc: u16, machine: u8) -> bool

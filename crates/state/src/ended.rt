@@ -24,7 +24,7 @@ pub fn endings_of(n: Ended) -> u16
 }
 
 // The program of the first that ended, 0 where none did.
-pub fn first_of(n: Ended) -> u16
+pub fn first_ended(n: Ended) -> u16
     ensures { λ r. ⌜ r ≡ firstEnded n ⌝ }
 {
     match n {
@@ -35,7 +35,7 @@ pub fn first_of(n: Ended) -> u16
 }
 
 // The program of the second that ended, 0 where none did.
-pub fn second_of(n: Ended) -> u16
+pub fn second_ended(n: Ended) -> u16
     ensures { λ r. ⌜ r ≡ secondEnded n ⌝ }
 {
     match n {

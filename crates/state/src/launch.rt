@@ -1,5 +1,5 @@
-// Late launch: the thread ends, and in its slot a new one runs the machine's launch program. The machine's dynamic
-// registers become dinit and are locked by the new thread, whoever held them. All other locks stay.
+// Late launch, threads and locks: the thread ends, and in its slot a new one runs the machine's launch program. The
+// machine's dynamic registers are locked by the new thread, whoever held them. All other locks stay.
 use crate::lock::held_by;
 use crate::lock::known_locks;
 use crate::slot::Slot;

@@ -7,7 +7,7 @@ use crate::slot::pack_slot;
 use model::records::Action;
 use model::records::length_at;
 ghost use mathlib.Core.Path.{_≡_};
-ghost use Rattle.state.specs.Moves.{withSlot, withLock, locked, Last, movedOn, jumpedTo, nonceAfter};
+ghost use Rattle.state.specs.Moves.{withSlot, withAt, locked, Last, movedOn, jumpedTo, nonceAfter};
 
 // Lock takes the location for this thread, unlock frees it.
 pub fn locked(locks: &mut [u32; 32], a: Action, serial: u16)
@@ -22,7 +22,7 @@ pub fn locked(locks: &mut [u32; 32], a: Action, serial: u16)
 }
 
 fn with_lock(locks: &mut [u32; 32], loc: u16, n: u32)
-    ensures { λ _. ⌜ now (locks .exit) ≡ withLock (now (locks .entry)) loc n ⌝ }
+    ensures { λ _. ⌜ now (locks .exit) ≡ withAt (now (locks .entry)) loc n ⌝ }
 {
     let i = loc as usize;
     if i < 32 {

@@ -1,5 +1,5 @@
-// Reset: every thread on the machine ends, its locks are freed, RAM becomes label 0 and all registers sinit, disk stays.
-// A boot thread takes the lowest free slot and, if the machine is protected, all its static registers.
+// Reset, threads and locks: every thread on the machine ends, and every lock on it is freed. A boot thread takes the
+// lowest free slot and, if the machine is protected, all its static registers.
 use crate::lock::held_by;
 use crate::lock::known_locks;
 use crate::moves::with_slot;

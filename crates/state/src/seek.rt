@@ -1,8 +1,9 @@
 // The next code that refusals 1 to 7 let through. It only reads what it is lent of a configuration, and passes codes that
-// are refused alike together: those that are none, and the hand-overs from a slot that is empty or does not send.
+// are refused alike together: the hand-overs from a slot that is empty or does not send.
 use crate::code::Code;
 use crate::early::early;
 use crate::early::next_action;
+use crate::slot::Slot;
 use crate::slot::slot_at;
 ghost use mathlib.Core.Path.{_≡_};
 ghost use Rattle.state.specs.Early.{sight};
@@ -73,13 +74,13 @@ fn next_sender(slots: &[u64; 12], actions: &[u64; 512], from: u8) -> u8
     ensures { λ r. ⌜ NextSender (now (slots .entry)) (now (actions .entry)) from r ⌝ }
 {
     let mut i = from;
-    while i < 12 {
+    while i < Slot::SLOTS {
         if sends(slots, actions, i) {
             return i;
         }
         i += 1;
     }
-    12
+    Slot::SLOTS
 }
 
 fn sends(slots: &[u64; 12], actions: &[u64; 512], i: u8) -> bool

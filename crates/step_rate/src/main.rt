@@ -16,8 +16,8 @@ use rules::inner::Reply;
 use rules::inner::Stepped;
 use rules::inner::try_step;
 use state::control::Control;
+use terms::entry::add;
 use terms::table::Table;
-use terms::table::add;
 use terms::table::cut;
 use terms::term::Term;
 

@@ -1,21 +1,21 @@
 -- T2. Adding a term to a sound table: refused as too deep, found, entered as one new line, or refused for want of room.
 -- Each is tied to the trees: the depth, an old label that denotes the tree, and no label that does.
-use Prim.Native.Nat.{ℕ, zero, suc, _+_, _-_, _<_, _≤_}
+use Prim.Native.Nat.{ℕ, _+_, _<_, _≤_}
 use mathlib.Core.Path.{_≡_, refl, sym, ap, ap₂, _∙_, subst}
 use mathlib.Core.Bool.{Bool, true, false}
 use mathlib.Core.List.{List, [], _∷_, _++_}
 use native.Mathlib.Omega.{arith}
 use native.Mathlib.Numerals.{add-one}
-use lib.ListN.{length, getD, take, drop, set, length-set, length-drop}
-use lib.Seq.{take-set-le, getD-take, getD-drop, getD-set-same, getD-set-other, getD-at, length-take-le}
+use lib.ListN.{length, getD, set, length-set}
+use lib.Seq.{take-set-le, getD-set-same, getD-set-other, getD-at}
 use lib.Dec.{ltb, eqb}
-use borrow.Author.Tests.{ltb-true, ltb-false, eqb-true, eqb-false}
+use borrow.Author.Tests.{ltb-true, ltb-false}
 use Rattle.terms.proofs.Laws.{below-or, free-none, free-some}
-use Rattle.terms.specs.Base.{pick, held}
+use Rattle.terms.specs.Base.{pick, held, largerOf}
 use Rattle.terms.specs.Term.{shapeOf, inLimits, partsBy, partsBelow, afterBy, afterParts}
 use Rattle.terms.specs.Line.{packed, termIn, lineAt, termAt}
 use Rattle.terms.specs.Grade.{aboveLine, aboveBoth, gradeBy, gradeOf}
-use Rattle.terms.specs.Table.{freeOf, findIn, findLine, findTerm, added, addBy, addTo}
+use Rattle.terms.specs.Table.{freeOf, findLine, findTerm, added, addBy, addTo}
 use Rattle.terms.specs.Sound.{Sound}
 use Rattle.terms.specs.Tree.{Tree, nought, deepness, member}
 use Rattle.terms.specs.Meaning.{build, trees, treeOf, means, Den}
@@ -28,68 +28,10 @@ use Rattle.terms.specs.declared.table.Found.{Found}
 use Rattle.terms.specs.declared.table.Found.the-variants.{At, Nothing}
 use Rattle.terms.specs.declared.table.Outcome.the-variants as O
 use Rattle.terms.proofs.Pack.{Small, term-packed}
+use Rattle.terms.proofs.Find.{Found-at, line-hit, line-miss}
 use Rattle.terms.proofs.Meaning.{length-trees, trees-next, also-left, also-right, parts-more, tree-at, grade-depth, depth-right, tree-shallow}
 use Rattle.terms.proofs.Labels.{term-one, one-label, member-den}
 use Rattle.terms.proofs.Growth.{trees-front}
-
--- What a search among lines tells
-
--- line i of the lines that begin with label o is n
-record Hit (o : ℕ) (ms : List ℕ) (n i : ℕ) : Type 0 where
-  place : ℕ
-  label : i ≡ o + place
-  below : place < length ms
-  is : getD ms place 0 ≡ n
-
-hit-by : (o m n i : ℕ) (ms : List ℕ) (t : Bool) → eqb m n ≡ t → pick t (At o) (findIn (o + 1) ms n) ≡ At i
-    → (findIn (o + 1) ms n ≡ At i → Hit (o + 1) ms n i) → Hit o (m ∷ ms) n i
-hit-by o m n i ms true e h f = let q : o ≡ i = cc in record { place = 0; label = omega arith; below = omega arith; is = eqb-true m n e }
-hit-by o m n i ms false e h f =
-    let r = f h in
-    record { place = suc (r .place); label = omega (arith, r .label); below = omega (arith, r .below); is = r .is }
-
-find-hit : (o : ℕ) (ms : List ℕ) (n i : ℕ) → findIn o ms n ≡ At i → Hit o ms n i
-unfolding findIn
-find-hit o [] n i h = let z : _≡_ {A = ℕ} 0 1 = cc in absurd (omega arith)
-find-hit o (m ∷ ms) n i h = hit-by o m n i ms (eqb m n) refl h (find-hit (o + 1) ms n i)
-
-miss-by : (o m n : ℕ) (ms : List ℕ) (t : Bool) → eqb m n ≡ t → pick t (At o) (findIn (o + 1) ms n) ≡ Nothing
-    → (findIn (o + 1) ms n ≡ Nothing → (j : ℕ) → j < length ms → getD ms j 0 ≡ n → ⊥) → (j : ℕ) → j < length (m ∷ ms) → getD (m ∷ ms) j 0 ≡ n → ⊥
-miss-by o m n ms true e h f j k q = let z : _≡_ {A = ℕ} 0 1 = cc in omega arith
-miss-by o m n ms false e h f zero k q = eqb-false m n e q
-miss-by o m n ms false e h f (suc j) k q = f h j (omega arith) q
-
-find-miss : (o : ℕ) (ms : List ℕ) (n : ℕ) → findIn o ms n ≡ Nothing → (j : ℕ) → j < length ms → getD ms j 0 ≡ n → ⊥
-unfolding findIn
-find-miss o [] n h j k q = omega arith
-find-miss o (m ∷ ms) n h j k q = miss-by o m n ms (eqb m n) refl h (find-miss (o + 1) ms n) j k q
-
--- a label among the lines used
-record Found-at (l : List ℕ) (c n i : ℕ) : Type 0 where
-  below : i < c
-  is : lineAt l i ≡ n
-
-line-hit : (l : List ℕ) (o c n i : ℕ) → c ≤ length l → findLine l o c n ≡ At i → Found-at l c n i
-unfolding findLine
-line-hit l o c n i h e =
-    let r = find-hit o (drop o (take c l)) n i e in
-    let m = length-take-le c l h in
-    let d = length-drop o (take c l) in
-    let q : i ≡ o + r .place = r .label in
-    let b : o + r .place < c = omega (arith, r .below, m, d) in
-    record {
-      below = omega arith;
-      is = ap (λ (k : ℕ). getD l k 0) q ∙ sym (getD-take c l (o + r .place) 0 b) ∙ sym (getD-drop o (take c l) (r .place) 0) ∙ r .is;
-    }
-
-line-miss : (l : List ℕ) (o c n : ℕ) → c ≤ length l → findLine l o c n ≡ Nothing → (j : ℕ) → o ≤ j → j < c → lineAt l j ≡ n → ⊥
-unfolding findLine
-line-miss l o c n h e j s k q =
-    let m = length-take-le c l h in
-    let d = length-drop o (take c l) in
-    let z : o + (j - o) ≡ j = omega arith in
-    let p : getD (drop o (take c l)) (j - o) 0 ≡ getD (take c l) j 0 = getD-drop o (take c l) (j - o) 0 ∙ ap (λ (i : ℕ). getD (take c l) i 0) z in
-    find-miss o (drop o (take c l)) n e (j - o) (omega (arith, m, d, k)) (p ∙ getD-take c l j 0 k ∙ q)
 
 -- The grade of a term hangs on the lines of its parts alone
 
@@ -250,6 +192,7 @@ line-den {l} {c} {i} S p x F r =
     record { below = r .below; is = tree-at S p i (r .below) ∙ ap (means l c) t }
 
 after-by : (s : Shape) (a b i : ℕ) → partsBy s a b i ≡ true → afterBy s a b ≤ i
+unfolding largerOf
 after-by Bare a b i p = omega arith
 after-by Number a b i p = omega arith
 after-by Variable a b i p = omega arith

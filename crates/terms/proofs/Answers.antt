@@ -1,16 +1,27 @@
--- A substitution's answer as one number: what is put into it is read out of it again, and one without a label is handed
--- on as it is.
+-- A substitution's answer as one number: what is put into it is read out of it again, one without a label is handed on as it
+-- is, and what came of adding a term is told from it.
 use Prim.Native.Nat.{ℕ, _+_, _*_, _/_, _%_, _<_}
 use mathlib.Core.Bool.{Bool, true, false}
 use mathlib.Core.List.{List}
-use mathlib.Core.Path.{_≡_, refl}
+use mathlib.Core.Path.{_≡_, refl, ap, _∙_}
+use lib.ListN.{set}
+use lib.Dec.{ltb, eqb}
 use native.Mathlib.Omega.{arith}
-use borrow.Author.Tests.{lt-ltb, le-ltb}
+use borrow.Author.Tests.{lt-ltb, le-ltb, eq-eqb, ne-eqb}
 use Rattle.terms.specs.Base.{pick, Held, held}
 use Rattle.terms.specs.Subbed.{Label, Deep, Full, Subbed, subbed, labelIn, countIn, hasLabel, isDeep, subbedIn}
-use Rattle.terms.specs.Subst.{firstBy, withFirst, secondBy, withSecond, bothBy, withBoth, thenSecond, takenBy, secondOperand, operands, afterFirst}
+use Rattle.terms.specs.Term.{afterParts}
+use Rattle.terms.specs.Line.{packed}
+use Rattle.terms.specs.Grade.{gradeOf}
+use Rattle.terms.specs.Table.{freeOf, findLine, added, addBy, addTo}
+use Rattle.terms.specs.Subst.{asGot, enteredIn, firstBy, withFirst, secondBy, withSecond, bothBy, withBoth, thenSecond, takenBy, notTaken, secondOperand, operands, afterFirst}
+use Rattle.terms.specs.Entry.{enterFrom, outcomeIn}
+use Rattle.terms.specs.declared.term.Term.{Term}
+use Rattle.terms.specs.declared.table.Added.{Added}
+use Rattle.terms.specs.declared.table.Found.{Found}
+use Rattle.terms.specs.declared.table.Found.the-variants.{At, Nothing}
+use Rattle.terms.specs.declared.table.Outcome.the-variants as O
 use Rattle.terms.specs.declared.subst.Taken.the-variants as T
-use Rattle.terms.specs.Entry.{notTaken}
 
 pub answer-label : (i c : ℕ) → i < 65536 → c < 65536 → subbedIn (c * 65536 + i) ≡ subbed (Label i) c
 unfolding subbedIn hasLabel labelIn countIn
@@ -93,3 +104,32 @@ module _ (n : ℕ) (b : Bool) (e : b ≡ hasLabel n) where
       go : (d : Bool) → afterFirst (pick d Deep Full) (countIn n) l vs o y ≡ held (operands (pick d T.Deep T.Full) (countIn n)) l
       go true = refl
       go false = refl
+
+pub enter-as : (l : List ℕ) (c : ℕ) (x : Term) → enteredIn l c x ≡ enterFrom (afterParts x) (gradeOf l x) l c x
+unfolding enteredIn addTo enterFrom
+enter-as l c x = refl
+
+-- a term added is told from the answer: the count rises exactly where the term is new
+Told : ℕ → Held Added → Type 0
+Told c h = held (added (outcomeIn c (asGot h .out)) (asGot h .out .count)) (h .table) ≡ h
+
+told-by : (f : Found) (l : List ℕ) (c n : ℕ) → Told c (addBy f l c n)
+unfolding outcomeIn Told
+told-by (At i) l c n = rw (eq-eqb c c refl)
+told-by Nothing l c n = go (eqb (freeOf c) 0)
+  where
+    go : (b : Bool) → Told c (pick b (held (added O.Full c) l) (held (added (O.New c) (c + 1)) (set l c n)))
+    go true = refl
+    go false = rw (ne-eqb (c + 1) c (omega arith))
+
+told-graded : (b : Bool) (l : List ℕ) (c : ℕ) (h : Held Added) → Told c h → Told c (pick b (held (added O.Deep c) l) h)
+unfolding outcomeIn Told
+told-graded true l c h t = refl
+told-graded false l c h t = t
+
+pub told-added : (l m : List ℕ) (c n : ℕ) (x : Term) → held (subbedIn n) m ≡ enteredIn l c x
+    → held (added (outcomeIn c (subbedIn n)) (countIn n)) m ≡ addTo l c x
+unfolding enteredIn addTo subbedIn Told
+told-added l m c n x e =
+    ap (λ (h : Held Subbed). held (added (outcomeIn c (h .out)) (h .out .count)) (h .table)) e
+    ∙ told-graded (ltb 16 (gradeOf l x .depth)) l c _ (told-by (findLine l (afterParts x) c (packed x (gradeOf l x))) l c (packed x (gradeOf l x)))

@@ -5,16 +5,16 @@ use mathlib.Core.Path.{_≡_, refl, sym, _∙_}
 use mathlib.Core.Bool.{Bool, true, false}
 use mathlib.Core.List.{List, [], _∷_}
 use native.Mathlib.Omega.{arith}
-use lib.ListN.{length, set, length-set}
+use lib.ListN.{length, getD, set, length-set}
 use lib.Dec.{ltb, eqb}
 use lib.Seq.{getD-set-other, ext-getD}
 use borrow.Author.Tests.{ltb-true, ltb-false}
 use Rattle.terms.proofs.Laws.{free-some}
-use Rattle.terms.specs.Base.{pick, Held, held}
+use Rattle.terms.specs.Base.{pick, filled, Held, held}
 use Rattle.terms.specs.Term.{afterParts}
 use Rattle.terms.specs.Line.{lineAt, packed}
 use Rattle.terms.specs.Grade.{gradeOf}
-use Rattle.terms.specs.Table.{usedOf, freeOf, wipe, cutTo, findLine, added, addBy, addTo}
+use Rattle.terms.specs.Table.{usedOf, freeOf, cutTo, findLine, added, addBy, addTo}
 use Rattle.terms.specs.Subbed.{Got, Label, Deep, Full, Subbed}
 use Rattle.terms.specs.Subst.{planAt, enteredIn, firstBy, withFirst, secondBy, withSecond, bothBy, withBoth, thenSecond, walkBy, substIn, takenBy, secondOperand, afterFirst, takeBoth, settledBy, takeOperands}
 use Rattle.terms.specs.declared.term.Term.{Term}
@@ -56,38 +56,38 @@ grown-then g h = record {
 pub grown-zero : {l m : List ℕ} {c d : ℕ} → ZeroPast l c → Grown l c m d → ZeroPast m d
 grown-zero z g i s = g .past i s ∙ z i (omega arith)
 
--- a line wiped is zero, be it in the list or past its end
-zero-set : (l : List ℕ) (i : ℕ) → lineAt (set l i 0) i ≡ 0
-zero-set [] i = refl
-zero-set (x ∷ l) zero = refl
-zero-set (x ∷ l) (suc i) = zero-set l i
+-- filling with v: the length, the elements before, those behind, those filled. Past the end of a list v stands too.
+module _ {A : Type 0} (v : A) where
+  pub fill-long : (n i : ℕ) (l : List A) → length (filled v n i l) ≡ length l
+  unfolding filled
+  fill-long zero i l = refl
+  fill-long (suc n) i l = fill-long n (i + 1) (set l i v) ∙ length-set l i v
 
--- wiping: the length, the lines before, the lines behind, the lines wiped
-pub wipe-long : (n i : ℕ) (l : List ℕ) → length (wipe n i l) ≡ length l
-unfolding wipe
-wipe-long zero i l = refl
-wipe-long (suc n) i l = wipe-long n (i + 1) (set l i 0) ∙ length-set l i 0
+  pub fill-before : (n i : ℕ) (l : List A) (j : ℕ) → j < i → getD (filled v n i l) j v ≡ getD l j v
+  unfolding filled
+  fill-before zero i l j h = refl
+  fill-before (suc n) i l j h = fill-before n (i + 1) (set l i v) j (omega arith) ∙ getD-set-other l i j v v (omega arith)
 
-pub wipe-before : (n i : ℕ) (l : List ℕ) (j : ℕ) → j < i → lineAt (wipe n i l) j ≡ lineAt l j
-unfolding wipe
-wipe-before zero i l j h = refl
-wipe-before (suc n) i l j h = wipe-before n (i + 1) (set l i 0) j (omega arith) ∙ getD-set-other l i j 0 0 (omega arith)
+  pub fill-behind : (n i : ℕ) (l : List A) (j : ℕ) → i + n ≤ j → getD (filled v n i l) j v ≡ getD l j v
+  unfolding filled
+  fill-behind zero i l j h = refl
+  fill-behind (suc n) i l j h = fill-behind n (i + 1) (set l i v) j (omega arith) ∙ getD-set-other l i j v v (omega arith)
 
-pub wipe-behind : (n i : ℕ) (l : List ℕ) (j : ℕ) → i + n ≤ j → lineAt (wipe n i l) j ≡ lineAt l j
-unfolding wipe
-wipe-behind zero i l j h = refl
-wipe-behind (suc n) i l j h = wipe-behind n (i + 1) (set l i 0) j (omega arith) ∙ getD-set-other l i j 0 0 (omega arith)
+  set-own : (l : List A) (i : ℕ) → getD (set l i v) i v ≡ v
+  set-own [] i = refl
+  set-own (x ∷ l) zero = refl
+  set-own (x ∷ l) (suc i) = set-own l i
 
-pub wipe-within : (n i : ℕ) (l : List ℕ) (j : ℕ) → i ≤ j → j < i + n → lineAt (wipe n i l) j ≡ 0
-unfolding wipe
-wipe-within zero i l j h k = absurd (omega arith)
-wipe-within (suc n) i l j h k = go (ltb i j) refl (wipe-within n (i + 1) (set l i 0) j)
-  where
-    go : (b : Bool) → ltb i j ≡ b → (i + 1 ≤ j → j < i + 1 + n → lineAt (wipe n (i + 1) (set l i 0)) j ≡ 0) → lineAt (wipe n (i + 1) (set l i 0)) j ≡ 0
-    go true e ih = ih (omega (arith, ltb-true i j e)) (omega arith)
-    go false e ih =
-        let s : j ≡ i = omega (arith, ltb-false i j e) in
-        wipe-before n (i + 1) (set l i 0) j (omega arith) ∙ rw s (zero-set l i)
+  pub fill-within : (n i : ℕ) (l : List A) (j : ℕ) → i ≤ j → j < i + n → getD (filled v n i l) j v ≡ v
+  unfolding filled
+  fill-within zero i l j h k = absurd (omega arith)
+  fill-within (suc n) i l j h k = go (ltb i j) refl (fill-within n (i + 1) (set l i v) j)
+    where
+      go : (b : Bool) → ltb i j ≡ b → (i + 1 ≤ j → j < i + 1 + n → getD (filled v n (i + 1) (set l i v)) j v ≡ v) → getD (filled v n (i + 1) (set l i v)) j v ≡ v
+      go true e ih = ih (omega (arith, ltb-true i j e)) (omega arith)
+      go false e ih =
+          let s : j ≡ i = omega (arith, ltb-false i j e) in
+          fill-before n (i + 1) (set l i v) j (omega arith) ∙ rw s (set-own l i)
 
 used-small : (d : ℕ) → d ≤ 512 → usedOf d ≡ d
 unfolding usedOf
@@ -98,19 +98,19 @@ used-small d h = go (ltb d 512) refl
     go false e = omega (arith, ltb-false d 512 e)
 
 -- each line after cutting back
-back-at : {l m : List ℕ} {c d : ℕ} → ZeroPast l c → Grown l c m d → (i : ℕ) → lineAt (wipe (d - c) c m) i ≡ lineAt l i
+back-at : {l m : List ℕ} {c d : ℕ} → ZeroPast l c → Grown l c m d → (i : ℕ) → lineAt (filled 0 (d - c) c m) i ≡ lineAt l i
 back-at {l} {m} {c} {d} z g i = go (ltb i c) refl (ltb i d) refl
   where
-    go : (a : Bool) → ltb i c ≡ a → (b : Bool) → ltb i d ≡ b → lineAt (wipe (d - c) c m) i ≡ lineAt l i
-    go true e b f = wipe-before (d - c) c m i (ltb-true i c e) ∙ g .below i (ltb-true i c e)
-    go false e true f = wipe-within (d - c) c m i (ltb-false i c e) (omega (arith, ltb-true i d f)) ∙ sym (z i (ltb-false i c e))
-    go false e false f = wipe-behind (d - c) c m i (omega (arith, ltb-false i d f)) ∙ g .past i (ltb-false i d f)
+    go : (a : Bool) → ltb i c ≡ a → (b : Bool) → ltb i d ≡ b → lineAt (filled 0 (d - c) c m) i ≡ lineAt l i
+    go true e b f = fill-before 0 (d - c) c m i (ltb-true i c e) ∙ g .below i (ltb-true i c e)
+    go false e true f = fill-within 0 (d - c) c m i (ltb-false i c e) (omega (arith, ltb-true i d f)) ∙ sym (z i (ltb-false i c e))
+    go false e false f = fill-behind 0 (d - c) c m i (omega (arith, ltb-false i d f)) ∙ g .past i (ltb-false i d f)
 
 -- cutting a grown table back gives the table that it grew from
 pub cut-back : {l m : List ℕ} {c d : ℕ} → c ≤ 512 → ZeroPast l c → Grown l c m d → cutTo m c d ≡ l
 unfolding cutTo
 cut-back {l} {m} {c} {d} s z g =
-    rw (used-small d (g .fits s)) (ext-getD 0 (wipe (d - c) c m) l (wipe-long (d - c) c m ∙ g .long) (λ i h. back-at z g i))
+    rw (used-small d (g .fits s)) (ext-getD 0 (filled 0 (d - c) c m) l (fill-long 0 (d - c) c m ∙ g .long) (λ i h. back-at z g i))
 
 -- one line more
 set-grows : (l : List ℕ) (c n : ℕ) → c < 512 → Grown l c (set l c n) (c + 1)

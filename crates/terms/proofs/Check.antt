@@ -5,19 +5,23 @@ use mathlib.Core.Path.{_≡_, refl, sym, ap, _∙_}
 use mathlib.Core.Bool.{Bool, true, false}
 use mathlib.Core.List.{List, [], _∷_}
 use native.Mathlib.Omega.{arith}
-use lib.ListN.{length, getD, take, drop}
+use lib.ListN.{length, getD, drop}
 use lib.Dec.{ltb, eqb}
-use lib.Seq.{getD-take, getD-drop, length-take-le}
-use borrow.Author.Tests.{ltb-true, ltb-false, le-ltb, eqb-true, eqb-false, eq-eqb, ne-eqb}
-use Rattle.terms.specs.Base.{pick, also}
+use lib.Seq.{getD-drop}
+use borrow.Author.Tests.{ltb-true, ltb-false, le-ltb, eqb-true, eq-eqb}
+use Rattle.terms.specs.Base.{pick, also, largerOf}
+use Rattle.terms.specs.Each.{allFrom, each}
 use Rattle.terms.specs.Term.{shapeOf, inLimits, partsBelow}
 use Rattle.terms.specs.Line.{packed, termIn, depthIn, groundIn, lineAt, termAt}
-use Rattle.terms.specs.Grade.{deeperOf, aboveLine, aboveBoth, gradeOf}
+use Rattle.terms.specs.Grade.{aboveLine, aboveBoth, gradeOf}
 use Rattle.terms.specs.Table.{fixedLine, freshTable, findIn, findLine}
-use Rattle.terms.specs.Sound.{fixedFirst, isNew, lineSound, linesFrom, allZero, soundTest, Sound}
+use Rattle.terms.specs.Sound.{fixedFirst, isNew, lineSound, allZero, soundTest, Sound}
 use Rattle.terms.specs.declared.term.Term.{Term}
-use Rattle.terms.specs.declared.table.Found.the-variants.{At}
+use Rattle.terms.specs.declared.table.Found.{Found}
+use Rattle.terms.specs.declared.table.Found.the-variants.{At, Nothing}
+use Rattle.terms.proofs.Find.{line-miss, miss-line}
 use Rattle.terms.proofs.Meaning.{also-left, also-right, also-both}
+use Rattle.terms.proofs.Each.{each-at, at-each}
 
 -- a test that must not hold, and one after it: what the passed two say, and the way back
 pub unless-pass : (p q : Bool) → pick p false q ≡ true → (p ≡ false) × (q ≡ true)
@@ -27,47 +31,9 @@ unless-pass false q e = (refl, e)
 pass-unless : {p q : Bool} → p ≡ false → q ≡ true → pick p false q ≡ true
 pass-unless e f = rw (e, f)
 
--- a line is new exactly if no line before it is the same
-pub new-other : (k : ℕ) (l : List ℕ) (n : ℕ) → isNew (findIn k l n) ≡ true → (j : ℕ) → j < length l → getD l j 0 ≡ n → ⊥
-unfolding findIn
-new-other k [] n e j h s = omega arith
-new-other k (m ∷ l) n e j h s = go (eqb m n) refl e j h s (new-other (k + 1) l n)
-  where
-    go : (b : Bool) → eqb m n ≡ b → isNew (pick b (At k) (findIn (k + 1) l n)) ≡ true
-        → (j : ℕ) → j < length (m ∷ l) → getD (m ∷ l) j 0 ≡ n
-        → (isNew (findIn (k + 1) l n) ≡ true → (i : ℕ) → i < length l → getD l i 0 ≡ n → ⊥) → ⊥
-    go true f p i h s ih = let z : _≡_ {A = ℕ} 0 1 = cc in omega arith
-    go false f p zero h s ih = eqb-false m n f s
-    go false f p (suc i) h s ih = ih p i (omega arith) s
-
-pub other-new : (k : ℕ) (l : List ℕ) (n : ℕ) → ((j : ℕ) → j < length l → getD l j 0 ≡ n → ⊥) → isNew (findIn k l n) ≡ true
-unfolding findIn
-other-new k [] n f = refl
-other-new k (m ∷ l) n f = rw (ne-eqb m n (f 0 (omega arith))) (other-new (k + 1) l n (λ j h. f (suc j) (omega arith)))
-
-module _ (l : List ℕ) (long : length l ≡ 512) where
-  pub new-line : (i : ℕ) → i ≤ 512 → isNew (findLine l 0 i (lineAt l i)) ≡ true → (j : ℕ) → j < i → lineAt l j ≡ lineAt l i → ⊥
-  unfolding findLine
-  new-line i h e j s p = new-other 0 (take i l) (lineAt l i) e j (rw (length-take-le i l (omega arith)) s) (getD-take i l j 0 s ∙ p)
-
-  pub line-new : (i : ℕ) → i ≤ 512 → ((j : ℕ) → j < i → lineAt l j ≡ lineAt l i → ⊥) → isNew (findLine l 0 i (lineAt l i)) ≡ true
-  unfolding findLine
-  line-new i h f = other-new 0 (take i l) (lineAt l i) (λ j s p. let t : j < i = omega (arith, length-take-le i l (omega arith)) in f j t (sym (getD-take i l j 0 t) ∙ p))
-
--- every line from i on is judged
-lines-all : (n i : ℕ) (l : List ℕ) → linesFrom n i l ≡ true → (j : ℕ) → i ≤ j → j < i + n → lineSound l j ≡ true
-unfolding linesFrom
-lines-all zero i l e j h k = absurd (omega arith)
-lines-all (suc n) i l e j h k = go (ltb i j) refl (lines-all n (i + 1) l (also-right (lineSound l i) (linesFrom n (i + 1) l) e) j)
-  where
-    go : (b : Bool) → ltb i j ≡ b → (i + 1 ≤ j → j < i + 1 + n → lineSound l j ≡ true) → lineSound l j ≡ true
-    go true f ih = ih (omega (arith, ltb-true i j f)) (omega arith)
-    go false f ih = let s : j ≡ i = omega (arith, ltb-false i j f) in rw s (also-left (lineSound l i) (linesFrom n (i + 1) l) e)
-
-all-lines : (n i : ℕ) (l : List ℕ) → ((j : ℕ) → i ≤ j → j < i + n → lineSound l j ≡ true) → linesFrom n i l ≡ true
-unfolding linesFrom
-all-lines zero i l f = refl
-all-lines (suc n) i l f = also-both (f i (omega arith) (omega arith)) (all-lines n (i + 1) l (λ j h k. f j (omega arith) (omega arith)))
+new-nothing : (f : Found) → isNew f ≡ true → f ≡ Nothing
+new-nothing (At i) e = let z : _≡_ {A = ℕ} 0 1 = cc in absurd (omega arith)
+new-nothing Nothing e = refl
 
 -- all that is left is zero
 zero-at : (l : List ℕ) → allZero l ≡ true → (i : ℕ) → getD l i 0 ≡ 0
@@ -87,7 +53,7 @@ record Judged (l : List ℕ) (i : ℕ) : Type 0 where
   parts : partsBelow (termAt l i) i ≡ true
   shallow : gradeOf l (termAt l i) .depth ≤ 16
   line : packed (termAt l i) (gradeOf l (termAt l i)) ≡ lineAt l i
-  new : isNew (findLine l 0 i (lineAt l i)) ≡ true
+  new : findLine l 0 i (lineAt l i) ≡ Nothing
 
 judged : (l : List ℕ) (i : ℕ) → lineSound l i ≡ true → Judged l i
 unfolding lineSound
@@ -99,7 +65,7 @@ judged l i e =
       parts = also-left _ _ a;
       shallow = ltb-false 16 (gradeOf l (termAt l i) .depth) (c .0);
       line = eqb-true _ _ (also-left _ _ (c .1));
-      new = also-right (eqb (packed (termAt l i) (gradeOf l (termAt l i))) (lineAt l i)) _ (c .1);
+      new = new-nothing _ (also-right (eqb (packed (termAt l i) (gradeOf l (termAt l i))) (lineAt l i)) _ (c .1));
     }
 
 judge : (l : List ℕ) (i : ℕ) → Judged l i → lineSound l i ≡ true
@@ -108,7 +74,7 @@ judge l i j =
     also-both (j .limits)
     (also-both (j .parts)
     (pass-unless (le-ltb 16 (gradeOf l (termAt l i) .depth) (j .shallow))
-    (also-both (eq-eqb _ _ (j .line)) (j .new))))
+    (also-both (eq-eqb _ _ (j .line)) (ap isNew (j .new)))))
 
 -- labels 0, 1, 2
 first-fixed : (l : List ℕ) → fixedFirst l ≡ true → (i : ℕ) → i < 3 → lineAt l i ≡ fixedLine i
@@ -139,13 +105,13 @@ module _ (l : List ℕ) (long : length l ≡ 512) (c : ℕ) (room : c ≤ 512) (
   differ i j h k e = go (ltb i j) refl (ltb j i) refl
     where
       go : (a : Bool) → ltb i j ≡ a → (b : Bool) → ltb j i ≡ b → i ≡ j
-      go true f b g = absurd (new-line l long j (omega arith) (js j k .new) i (ltb-true i j f) (same-line i j h k e))
-      go false f true g = absurd (new-line l long i (omega arith) (js i h .new) j (ltb-true j i g) (sym (same-line i j h k e)))
+      go true f b g = absurd (line-miss l 0 j (lineAt l j) (omega arith) (js j k .new) i (omega arith) (ltb-true i j f) (same-line i j h k e))
+      go false f true g = absurd (line-miss l 0 i (lineAt l i) (omega arith) (js i h .new) j (omega arith) (ltb-true j i g) (sym (same-line i j h k e)))
       go false f false g = omega (arith, ltb-false i j f, ltb-false j i g)
 
 -- the parts of the test, each as facts
-lines-judged : (l : List ℕ) (c : ℕ) → linesFrom c 0 l ≡ true → (i : ℕ) → i < c → Judged l i
-lines-judged l c e i h = judged l i (lines-all c 0 l e i (omega arith) (omega arith))
+lines-judged : (l : List ℕ) (c : ℕ) → each c (lineSound l) ≡ true → (i : ℕ) → i < c → Judged l i
+lines-judged l c e i h = judged l i (each-at c (lineSound l) e i h)
 
 rest-zero : (l : List ℕ) (c : ℕ) → allZero (drop c l) ≡ true → (i : ℕ) → c ≤ i → lineAt l i ≡ 0
 rest-zero l c e i h =
@@ -170,7 +136,7 @@ test-sound {l} {c} long e =
       shallow = λ i h. js i h .shallow;
       lines = λ i h. js i h .line;
       distinct = differ l long c room js;
-      zeros = rest-zero l c (also-right (linesFrom c 0 l) _ s);
+      zeros = rest-zero l c (also-right (each c (lineSound l)) _ s);
     }
 
 -- what is sound passes the test
@@ -180,7 +146,7 @@ sound-test {l} {c} long s =
     pass-unless (le-ltb c 3 (s .some))
     (pass-unless (le-ltb 512 c (s .room))
     (also-both (fixed-first l (s .fixed))
-    (also-both (all-lines c 0 l (λ i a b. judge l i (fine i (omega arith)))) (at-zero (drop c l) (λ i. getD-drop c l i 0 ∙ s .zeros (c + i) (omega arith))))))
+    (also-both (at-each c (lineSound l) (λ i h. judge l i (fine i h))) (at-zero (drop c l) (λ i. getD-drop c l i 0 ∙ s .zeros (c + i) (omega arith))))))
   where
     fine : (i : ℕ) → i < c → Judged l i
     fine i h = record {
@@ -188,7 +154,7 @@ sound-test {l} {c} long s =
       parts = s .parts i h;
       shallow = s .shallow i h;
       line = s .lines i h;
-      new = line-new l long i (omega (arith, s .room)) (λ j k e. let z : j ≡ i = s .distinct j i (omega arith) h (ap termIn e) in omega arith);
+      new = miss-line l i (lineAt l i) (omega (arith, s .room, long)) (λ j k e. let z : j ≡ i = s .distinct j i (omega arith) h (ap termIn e) in omega arith);
     }
 
 pub fresh-long : length (freshTable .lines) ≡ 512
@@ -196,7 +162,7 @@ unfolding freshTable
 fresh-long = refl
 
 fresh-passes : soundTest (freshTable .lines) (freshTable .count) ≡ true
-unfolding freshTable soundTest fixedFirst linesFrom lineSound allZero fixedLine packed termIn depthIn groundIn inLimits partsBelow shapeOf gradeOf aboveLine aboveBoth deeperOf findLine findIn
+unfolding freshTable soundTest fixedFirst allFrom lineSound allZero fixedLine packed termIn depthIn groundIn inLimits partsBelow shapeOf gradeOf aboveLine aboveBoth largerOf findLine findIn
 fresh-passes = refl
 
 -- the fresh table is sound

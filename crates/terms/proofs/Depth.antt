@@ -58,28 +58,28 @@ pub data Goes (l : List ℕ) (c : ℕ) (ws : List Tree) (o i : ℕ) : Plan → T
 
 -- the shape of a term gives which of the three it is
 module _ (x : Term) (small : x .kind < 256) where
-  seals-sealed : shapeOf (x .kind) ≡ Sealed → x .b < 65536 → Seals (x .kind) (x .b)
+  pub seals-sealed : shapeOf (x .kind) ≡ Sealed → x .b < 65536 → Seals (x .kind) (x .b)
   unfolding inLimits partsBelow build
   seals-sealed e h = record {
     fit = λ j d p q. record { limits = rw e; parts = rw e (lt-ltb j d p); kind = small; first = omega arith; second = h };
     is = λ j ts. rw e;
   }
 
-  seals-hashed : shapeOf (x .kind) ≡ Hashed → x .b < 65536 → inLimits x ≡ true → Seals (x .kind) (x .b)
+  pub seals-hashed : shapeOf (x .kind) ≡ Hashed → x .b < 65536 → inLimits x ≡ true → Seals (x .kind) (x .b)
   unfolding inLimits partsBelow build
   seals-hashed e h t = record {
     fit = λ j d p q. record { limits = rw e (rw e at t); parts = rw e (lt-ltb j d p); kind = small; first = omega arith; second = h };
     is = λ j ts. rw e;
   }
 
-  applies : shapeOf (x .kind) ≡ Applied → x .a < 65536 → inLimits x ≡ true → Applies (x .kind) (x .a)
+  pub applies : shapeOf (x .kind) ≡ Applied → x .a < 65536 → inLimits x ≡ true → Applies (x .kind) (x .a)
   unfolding inLimits partsBelow build
   applies e h t = record {
     fit = λ j d p q. record { limits = rw e (rw e at t); parts = rw e (lt-ltb j d p); kind = small; first = h; second = omega arith };
     is = λ j ts. rw e;
   }
 
-  joins : shapeOf (x .kind) ≡ Joined → Joins (x .kind)
+  pub joins : shapeOf (x .kind) ≡ Joined → Joins (x .kind)
   unfolding inLimits partsBelow build
   joins e = record {
     fit = λ i j d p r q. record { limits = rw e; parts = rw (e, lt-ltb i d p, lt-ltb j d r); kind = small; first = omega arith; second = omega arith };

@@ -11,11 +11,11 @@ use lib.ListN.{length, getD, take, drop, set, length-take, drop-of-length-le}
 use lib.Seq.{drop-cons, getD-take}
 use lib.Dec.{ltb, eqb}
 use borrow.Author.Tests.{ltb-true, ltb-false, eqb-true, eqb-false, le-leb, lt-leb, lt-ltb, le-ltb, eq-eqb, ne-eqb}
-use Rattle.terms.specs.Base.{pick, held}
-use Rattle.terms.specs.Table.{usedOf, freeOf, findIn, wipe}
+use Rattle.terms.specs.Base.{pick, filled, held}
+use Rattle.terms.specs.Table.{usedOf, freeOf, findIn}
 use Rattle.terms.specs.Subbed.{Deep, subbed}
 use Rattle.terms.specs.Subst.{planAt, fitsBy, fitsWithin, walkBy, substIn}
-use Rattle.terms.specs.Sound.{lineSound, linesFrom, allZero}
+use Rattle.terms.specs.Sound.{allZero}
 use Rattle.terms.specs.declared.table.Found.the-variants.{At, Nothing}
 
 -- a test on numbers, as the branch tells it
@@ -74,32 +74,21 @@ module _ (l : List ℕ) (c n i : ℕ) where
   unfolding findIn
   find-end h = rw (drop-of-length-le (take c l) h)
 
--- cut: one line
-wipe-step : (k i : ℕ) (l : List ℕ) → 0 < k → wipe k i l ≡ wipe (k - 1) (i + 1) (set l i 0)
-unfolding wipe
-wipe-step zero i l h = absurd (omega arith)
-wipe-step (suc k) i l h = rw sub-one
+-- one value stored from a place on, in a list of any type: one element
+module _ {A : Type 0} (v : A) where
+  fill-step : (k i : ℕ) (l : List A) → 0 < k → filled v k i l ≡ filled v (k - 1) (i + 1) (set l i v)
+  unfolding filled
+  fill-step zero i l h = absurd (omega arith)
+  fill-step (suc k) i l h = rw sub-one
 
-pub wipe-more : (n i : ℕ) (l : List ℕ) → i < n → wipe (n - i) i l ≡ wipe (n - (i + 1)) (i + 1) (set l i 0)
-wipe-more n i l h = rw (sub-add-eq, wipe-step (n - i) i l (omega arith))
+  pub fill-more : (n i : ℕ) (l : List A) → i < n → filled v (n - i) i l ≡ filled v (n - (i + 1)) (i + 1) (set l i v)
+  fill-more n i l h = rw (sub-add-eq, fill-step (n - i) i l (omega arith))
 
-pub wipe-end : (n i : ℕ) (l : List ℕ) → n ≤ i → wipe (n - i) i l ≡ l
-unfolding wipe
-wipe-end n i l h = rw sub-eq-zero-of-le
+  pub fill-end : (n i : ℕ) (l : List A) → n ≤ i → filled v (n - i) i l ≡ l
+  unfolding filled
+  fill-end n i l h = rw sub-eq-zero-of-le
 
--- soundness: one line of those that hold terms, one of those past them
-lines-step : (k i : ℕ) (l : List ℕ) → 0 < k → linesFrom k i l ≡ pick (lineSound l i) (linesFrom (k - 1) (i + 1) l) false
-unfolding linesFrom
-lines-step zero i l h = absurd (omega arith)
-lines-step (suc k) i l h = rw sub-one
-
-pub lines-more : (n i : ℕ) (l : List ℕ) → i < n → linesFrom (n - i) i l ≡ pick (lineSound l i) (linesFrom (n - (i + 1)) (i + 1) l) false
-lines-more n i l h = rw (sub-add-eq, lines-step (n - i) i l (omega arith))
-
-pub lines-end : (n i : ℕ) (l : List ℕ) → n ≤ i → linesFrom (n - i) i l ≡ true
-unfolding linesFrom
-lines-end n i l h = rw sub-eq-zero-of-le
-
+-- soundness: one line of those past the terms
 pub zero-more : (l : List ℕ) (i : ℕ) → i < length l → allZero (drop i l) ≡ pick (eqb (getD l i 0) 0) (allZero (drop (i + 1) l)) false
 unfolding allZero
 zero-more l i h = rw (add-one, drop-cons l i 0 h)

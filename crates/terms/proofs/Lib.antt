@@ -4,7 +4,9 @@ pub mod Laws
 pub mod Answers
 pub mod Pack
 pub mod Back
+pub mod Find
 pub mod Meaning
+pub mod Each
 pub mod Check
 pub mod Labels
 pub mod Growth

@@ -8,10 +8,10 @@ use lib.ListN.{length, getD, take, drop, length-append, take-append-drop, List·
 use lib.Seq.{take-suc, take-take, getD-at, length-take-le}
 use lib.Dec.{ltb, eqb}
 use borrow.Author.Tests.{ltb-true, ltb-false, lt-ltb, ne-eqb}
-use Rattle.terms.specs.Base.{pick, also}
+use Rattle.terms.specs.Base.{pick, also, largerOf}
 use Rattle.terms.specs.Term.{shapeOf, partsBy, partsBelow}
 use Rattle.terms.specs.Line.{termIn, depthIn, groundIn, lineAt, termAt}
-use Rattle.terms.specs.Grade.{deeperOf, aboveLine, aboveBoth, gradeBy, gradeOf}
+use Rattle.terms.specs.Grade.{aboveLine, aboveBoth, gradeBy, gradeOf}
 use Rattle.terms.specs.Sound.{Sound}
 use Rattle.terms.specs.Tree.{Tree, leaf, sealed, applied, joined, nought, deepness, isGround}
 use Rattle.terms.specs.Meaning.{buildBy, build, treesFrom, trees, treeOf, means}
@@ -43,13 +43,10 @@ from-keeps ts (n ∷ ns) i h =
     let g = length-append ts (build (termIn n) ts ∷ []) in
     from-keeps (ts ++ (build (termIn n) ts ∷ [])) ns i (omega (arith, h, g)) ∙ List·getD-append ts (build (termIn n) ts ∷ []) nought i h
 
-trees-length : (l : List ℕ) (c : ℕ) → c ≤ length l → length (trees l c) ≡ c
-unfolding trees
-trees-length l c h = from-length [] (take c l) ∙ omega (arith, length-take-le c l h)
-
 -- one tree a label
 pub length-trees : (l : List ℕ) (c : ℕ) → length l ≡ 512 → c ≤ 512 → length (trees l c) ≡ c
-length-trees l c p h = trees-length l c (omega arith)
+unfolding trees
+length-trees l c p h = from-length [] (take c l) ∙ omega (arith, length-take-le c l (omega arith))
 
 -- one more line is one more tree
 pub trees-next : (l : List ℕ) (i : ℕ) → i < length l → trees l (suc i) ≡ trees l i ++ (means l i (termAt l i) ∷ [])
@@ -66,14 +63,14 @@ tree-below l i c h g j k =
     ∙ ap (λ (r : List Tree). getD r j nought) (from-append [] (take i l) (drop i (take c l)))
     ∙ from-keeps (treesFrom [] (take i l)) (drop i (take c l)) j (omega (arith, n, m, k))
 
-tree-last : (l : List ℕ) (i : ℕ) → i < length l → treeOf l (suc i) i ≡ means l i (termAt l i)
+tree-last : (l : List ℕ) (i : ℕ) → length l ≡ 512 → i < 512 → treeOf l (suc i) i ≡ means l i (termAt l i)
 unfolding treeOf
-tree-last l i h =
-    ap (λ (r : List Tree). getD r i nought) (trees-next l i h)
-    ∙ getD-at (trees l i) (means l i (termAt l i)) [] nought i (trees-length l i (omega arith))
+tree-last l i p h =
+    ap (λ (r : List Tree). getD r i nought) (trees-next l i (omega arith))
+    ∙ getD-at (trees l i) (means l i (termAt l i)) [] nought i (length-trees l i p (omega arith))
 
-tree-built : (l : List ℕ) (i c : ℕ) → i < c → c ≤ length l → treeOf l c i ≡ means l i (termAt l i)
-tree-built l i c h g = tree-below l (suc i) c (omega arith) g i (omega arith) ∙ tree-last l i (omega arith)
+tree-built : (l : List ℕ) (i c : ℕ) → length l ≡ 512 → i < c → c ≤ 512 → treeOf l c i ≡ means l i (termAt l i)
+tree-built l i c p h g = tree-below l (suc i) c (omega arith) (omega arith) i (omega arith) ∙ tree-last l i p (omega arith)
 
 -- Parts of a term, by its shape
 
@@ -157,21 +154,18 @@ pub tree-at : {l : List ℕ} {c : ℕ} → Sound l c → length l ≡ 512 → (i
 unfolding means
 tree-at {l} {c} S p i h =
     let r : c ≤ length l = omega (arith, S .room, p) in
-    tree-built l i c h r ∙ build-agree (termAt l i) i (trees l i) (trees l c) (S .parts i h) (tree-early l i c h r)
+    tree-built l i c p h (S .room) ∙ build-agree (termAt l i) i (trees l i) (trees l c) (S .parts i h) (tree-early l i c h r)
 
 -- Depth and ground mark
 
 -- the larger of two numbers, as a test picks it
-pub pick-max : (m n : ℕ) → pick (ltb m n) n m ≡ max m n
-pick-max m n = by (ltb m n) refl
+pub larger-max : (m n : ℕ) → largerOf m n ≡ max m n
+unfolding largerOf
+larger-max m n = by (ltb m n) refl
   where
     by : (t : Bool) → ltb m n ≡ t → pick t n m ≡ max m n
     by true e = let h = ltb-true m n e in omega arith
     by false e = let h = ltb-false m n e in omega arith
-
-deeper-max : (m n : ℕ) → deeperOf m n ≡ max m n
-unfolding deeperOf
-deeper-max m n = pick-max m n
 
 depth-by : (s : Shape) (k a b n : ℕ) (l : List ℕ) (ts : List Tree) → partsBy s a b n ≡ true → ((j : ℕ) → j < n → depthIn (lineAt l j) ≡ deepness (getD ts j nought))
     → gradeBy s l a b .depth ≡ deepness (buildBy s k a b ts)
@@ -185,7 +179,7 @@ depth-by Applied k a b n l ts p f = ap (λ (d : ℕ). d + 1) (f b (ltb-true b n 
 depth-by Joined k a b n l ts p f =
     let q = f a (ltb-true a n (also-left (ltb a n) (ltb b n) p)) in
     let r = f b (ltb-true b n (also-right (ltb a n) (ltb b n) p)) in
-    ap (λ (d : ℕ). d + 1) (deeper-max (depthIn (lineAt l a)) (depthIn (lineAt l b)) ∙ ap₂ max q r)
+    ap (λ (d : ℕ). d + 1) (larger-max (depthIn (lineAt l a)) (depthIn (lineAt l b)) ∙ ap₂ max q r)
 depth-by Unknown k a b n l ts p f = refl
 
 -- the depth that a line would get is the depth of its tree, if that holds of the parts

@@ -66,15 +66,15 @@ module _ {l : List ℕ} {c : ℕ} {m : List ℕ} {d : ℕ} (g : Grows l c m d) (
   entered x f e = entered-by x e (adds (g .sound) (g .long) x f)
 
 -- what a term of a shape means, once its parts are entered
-means-sealed : {m : List ℕ} {d j k n : ℕ} {y : Tree} → Seals k n → Den m d j y → means m d (term k j n) ≡ sealed k y n
+pub means-sealed : {m : List ℕ} {d j k n : ℕ} {y : Tree} → Seals k n → Den m d j y → means m d (term k j n) ≡ sealed k y n
 unfolding means treeOf
 means-sealed {m} {d} {j} {k} {n} s e = s .is j (trees m d) ∙ ap (λ (t : Tree). sealed k t n) (e .is)
 
-means-applied : {m : List ℕ} {d j k f : ℕ} {y : Tree} → Applies k f → Den m d j y → means m d (term k f j) ≡ applied k f y
+pub means-applied : {m : List ℕ} {d j k f : ℕ} {y : Tree} → Applies k f → Den m d j y → means m d (term k f j) ≡ applied k f y
 unfolding means treeOf
 means-applied {m} {d} {j} {k} {f} s e = s .is j (trees m d) ∙ ap (λ (t : Tree). applied k f t) (e .is)
 
-means-joined : {m : List ℕ} {d i j k : ℕ} {y z : Tree} → Joins k → Den m d i y → Den m d j z → means m d (term k i j) ≡ joined k y z
+pub means-joined : {m : List ℕ} {d i j k : ℕ} {y z : Tree} → Joins k → Den m d i y → Den m d j z → means m d (term k i j) ≡ joined k y z
 unfolding means treeOf
 means-joined {m} {d} {i} {j} {k} {y} s e f = s .is i j (trees m d) ∙ ap (λ (t : Tree). joined k t (treeOf m d j)) (e .is) ∙ ap (λ (t : Tree). joined k y t) (f .is)
 

@@ -2,8 +2,7 @@
 use Prim.Native.Nat.{ℕ, _+_}
 use mathlib.Core.Bool.{true, false}
 use mathlib.Core.List.{List}
-use lib.Dec.{ltb}
-use Rattle.terms.specs.Base.{pick, also}
+use Rattle.terms.specs.Base.{also, largerOf}
 use Rattle.terms.specs.Term.{shapeOf}
 use Rattle.terms.specs.Line.{grade, lineAt, depthIn, groundIn}
 use Rattle.terms.specs.declared.term.Term.{Term}
@@ -11,15 +10,12 @@ use Rattle.terms.specs.declared.term.Shape.{Shape}
 use Rattle.terms.specs.declared.term.Shape.the-variants.{Bare, Number, Variable, Sealed, Hashed, Applied, Joined, Unknown}
 use Rattle.terms.specs.declared.line.Grade.{Grade}
 
-unfoldable pub deeperOf : ℕ → ℕ → ℕ
-deeperOf m n = pick (ltb m n) n m
-
 -- above one part, and above two, of which the lines are given
 unfoldable pub aboveLine : ℕ → Grade
 aboveLine n = grade (depthIn n + 1) (groundIn n)
 
 unfoldable pub aboveBoth : ℕ → ℕ → Grade
-aboveBoth m n = grade (deeperOf (depthIn m) (depthIn n) + 1) (also (groundIn m) (groundIn n))
+aboveBoth m n = grade (largerOf (depthIn m) (depthIn n) + 1) (also (groundIn m) (groundIn n))
 
 abbrev pub gradeBy : Shape → List ℕ → ℕ → ℕ → Grade
 gradeBy Bare l a b = grade 1 true

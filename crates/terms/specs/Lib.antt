@@ -1,5 +1,7 @@
--- What the contracts of this crate cite, beside document 01, section 'Terms'. To be read in this order.
+-- Beside document 01, section 'Terms', to be read in this order: what the contracts of this crate cite, and from Tree on
+-- the terms written out whole, in which its theorems are said.
 pub mod Base
+pub mod Each
 pub mod Term
 pub mod Line
 pub mod Grade

@@ -62,6 +62,6 @@ pub data Enters (l : List ℕ) (c : ℕ) (z : Tree) : Held Subbed → Type 0 whe
 -- both operands of an action: "8" exactly when one is deeper than 16, then "9" exactly when both together have more new terms than there is room for
 pub data Takes (l : List ℕ) (c : ℕ) (x y : Tree) : Held Operands → Type 0 where
   deep : 16 < max (deepness x) (deepness y) → Takes l c x y (held (operands T.Deep c) l)
-  full : {m : List ℕ} {d : ℕ} → max (deepness x) (deepness y) ≤ 16 → 512 < length (enter (enter (trees l c) x) y) → Takes l c x y (held (operands T.Full d) m)
+  full : max (deepness x) (deepness y) ≤ 16 → 512 < length (enter (enter (trees l c) x) y) → Takes l c x y (held (operands T.Full c) l)
   done : {m : List ℕ} {d i j : ℕ} → max (deepness x) (deepness y) ≤ 16 → Grows l c m d → Den m d i x → Den m d j y → trees m d ≡ enter (enter (trees l c) x) y
       → Takes l c x y (held (operands (T.Labels i j) d) m)

@@ -1,11 +1,12 @@
 -- The soundness of a table, as a test on every list of numbers and every count, in the order of the code.
-use Prim.Native.Nat.{ℕ, zero, suc, _+_, _<_, _≤_}
+use Prim.Native.Nat.{ℕ, _<_, _≤_}
 use mathlib.Core.Path.{_≡_}
 use mathlib.Core.Bool.{Bool, true, false}
 use mathlib.Core.List.{List, [], _∷_}
 use lib.ListN.{drop}
 use lib.Dec.{ltb, eqb}
 use Rattle.terms.specs.Base.{pick}
+use Rattle.terms.specs.Each.{each}
 use Rattle.terms.specs.Term.{inLimits, partsBelow}
 use Rattle.terms.specs.Line.{lineAt, termAt, packed}
 use Rattle.terms.specs.Grade.{gradeOf}
@@ -38,11 +39,6 @@ lineSound l i =
     (pick (partsBelow (termAt l i) i) (lineBy (gradeOf l (termAt l i)) l i) false)
     false
 
--- n lines from label i on
-unfoldable pub linesFrom : ℕ → ℕ → List ℕ → Bool
-linesFrom zero i l = true
-linesFrom (suc n) i l = pick (lineSound l i) (linesFrom n (i + 1) l) false
-
 unfoldable pub allZero : List ℕ → Bool
 allZero [] = true
 allZero (m ∷ ms) = pick (eqb m 0) (allZero ms) false
@@ -51,7 +47,7 @@ unfoldable pub soundTest : List ℕ → ℕ → Bool
 soundTest l c =
     pick (ltb c 3) false
     (pick (ltb 512 c) false
-    (pick (fixedFirst l) (pick (linesFrom c 0 l) (allZero (drop c l)) false) false))
+    (pick (fixedFirst l) (pick (each c (lineSound l)) (allZero (drop c l)) false) false))
 
 -- The same said as facts: what a sound table is. `test-sound` and `sound-test` of proofs/Check.antt tie the two.
 pub record Sound (l : List ℕ) (c : ℕ) : Type 0 where

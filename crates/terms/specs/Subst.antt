@@ -6,9 +6,9 @@ use lib.ListN.{getD}
 use lib.Dec.{leb}
 use Rattle.terms.specs.Base.{pick, Held, held}
 use Rattle.terms.specs.Term.{term, shapeOf}
-use Rattle.terms.specs.Line.{lineAt, termAt, depthIn, groundIn}
+use Rattle.terms.specs.Line.{termAt, depthAt, groundAt}
 use Rattle.terms.specs.Table.{addTo, cutTo}
-use Rattle.terms.specs.Subbed.{Got, Label, Deep, Full, Subbed, subbed}
+use Rattle.terms.specs.Subbed.{Got, Label, Deep, Full, Subbed, subbed, countIn, isDeep}
 use Rattle.terms.specs.declared.term.Term.{Term}
 use Rattle.terms.specs.declared.term.Shape.{Shape}
 use Rattle.terms.specs.declared.term.Shape.the-variants.{Bare, Number, Variable, Sealed, Hashed, Applied, Joined, Unknown}
@@ -33,11 +33,11 @@ planBy Joined x vs o i = Both (x .a) (x .b)
 planBy Unknown x vs o i = Keep i
 
 unfoldable pub planAt : List ℕ → List ℕ → ℕ → ℕ → Plan
-planAt l vs o i = pick (groundIn (lineAt l i)) (Keep i) (planBy (shapeOf (termAt l i .kind)) (termAt l i) vs o i)
+planAt l vs o i = pick (groundAt l i) (Keep i) (planBy (shapeOf (termAt l i .kind)) (termAt l i) vs o i)
 
 -- the result has depth `room` at most: asked without entering anything
 abbrev pub fitsBy : Plan → List ℕ → ℕ → (ℕ → Bool) → Bool
-fitsBy (Keep i) l room deeper = leb (depthIn (lineAt l i)) room
+fitsBy (Keep i) l room deeper = leb (depthAt l i) room
 fitsBy (First a) l room deeper = deeper a
 fitsBy (Second b) l room deeper = deeper b
 fitsBy (Both a b) l room deeper = pick (deeper a) (deeper b) false
@@ -113,6 +113,10 @@ takenBy Full c i = operands T.Full c
 
 unfoldable pub secondOperand : ℕ → Subbed → Operands
 secondOperand i q = takenBy (q .got) (q .count) i
+
+-- the same of an answer as the code holds it, where it has no label
+unfoldable pub notTaken : ℕ → Operands
+notTaken n = operands (pick (isDeep n) T.Deep T.Full) (countIn n)
 
 abbrev pub afterFirst : Got → ℕ → List ℕ → List ℕ → ℕ → ℕ → Held Operands
 afterFirst (Label i) c l vs o y = let q = substIn 16 l c vs o y in held (secondOperand i (q .out)) (q .table)

@@ -1,11 +1,11 @@
 -- The table of terms: a list of lines of which the first `count` hold terms. A label is a line's place.
-use Prim.Native.Nat.{ℕ, zero, suc, _+_, _-_, _≤_, max}
+use Prim.Native.Nat.{ℕ, _+_, _-_, _≤_, max}
 use mathlib.Core.Path.{_≡_}
 use mathlib.Core.Bool.{true}
 use mathlib.Core.List.{List, [], _∷_}
 use lib.ListN.{take, drop, set, replicate}
 use lib.Dec.{ltb, eqb}
-use Rattle.terms.specs.Base.{pick, Held, held}
+use Rattle.terms.specs.Base.{pick, filled, Held, held}
 use Rattle.terms.specs.Term.{term, afterParts}
 use Rattle.terms.specs.Line.{grade, packed}
 use Rattle.terms.specs.Grade.{gradeOf}
@@ -70,11 +70,6 @@ addGraded g l c x = pick (ltb 16 (g .depth)) (held (added Deep c) l) (addBy (fin
 unfoldable pub addTo : List ℕ → ℕ → Term → Held Added
 addTo l c x = addGraded (gradeOf l x) l c x
 
--- n lines from i on are zero
-unfoldable pub wipe : ℕ → ℕ → List ℕ → List ℕ
-wipe zero i l = l
-wipe (suc n) i l = wipe n (i + 1) (set l i 0)
-
--- from a count back to an earlier one
+-- from a count back to an earlier one: the lines between the two are zero
 unfoldable pub cutTo : List ℕ → ℕ → ℕ → List ℕ
-cutTo l earlier c = wipe (usedOf c - earlier) earlier l
+cutTo l earlier c = filled 0 (usedOf c - earlier) earlier l

@@ -2,7 +2,7 @@
 use Prim.Native.Nat.{ℕ}
 use mathlib.Core.Bool.{Bool, true, false}
 use lib.Dec.{eqb, ltb}
-use Rattle.terms.specs.Base.{pick, also}
+use Rattle.terms.specs.Base.{pick, also, largerOf}
 use Rattle.terms.specs.declared.term.Term.{Term}
 use Rattle.terms.specs.declared.term.Shape.{Shape}
 use Rattle.terms.specs.declared.term.Shape.the-variants.{Bare, Number, Variable, Sealed, Hashed, Applied, Joined, Unknown}
@@ -61,7 +61,7 @@ afterBy Variable a b = 0
 afterBy Sealed a b = a
 afterBy Hashed a b = a
 afterBy Applied a b = b
-afterBy Joined a b = pick (ltb a b) b a
+afterBy Joined a b = largerOf a b
 afterBy Unknown a b = 0
 
 -- the label from which on a term is looked for

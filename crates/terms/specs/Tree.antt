@@ -78,7 +78,7 @@ member x (y ∷ ys) = pick (same y x) true (member x ys)
 unfoldable pub with : List Tree → Tree → List Tree
 with ks x = pick (member x ks) ks (ks ++ (x ∷ []))
 
--- "New terms enter in this order: within a term first part, second part, whole"
+-- "New terms enter in this order: .. within a term first part, second part, whole"
 unfoldable pub enter : List Tree → Tree → List Tree
 enter ks (leaf k a) = with ks (leaf k a)
 enter ks (sealed k x n) = with (enter ks x) (sealed k x n)

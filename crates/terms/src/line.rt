@@ -83,7 +83,7 @@ pub fn depth_at(t: &[u64; 512], label: u16) -> u8
 }
 
 // The term at a label holds no variable.
-pub fn is_ground(t: &[u64; 512], label: u16) -> bool
+pub fn ground_at(t: &[u64; 512], label: u16) -> bool
     ensures { λ r. ⌜ r ≡ groundAt (now (t .entry)) label ⌝ }
 {
     ground_in(line_at(t, label))

@@ -15,7 +15,8 @@ use crate::term::in_limits;
 use crate::term::parts_below;
 ghost use mathlib.Core.Path.{_≡_};
 ghost use lib.ListN.{drop};
-ghost use Rattle.terms.specs.Sound.{soundTest, fixedFirst, linesFrom, lineSound, allZero};
+ghost use Rattle.terms.specs.Each.{each};
+ghost use Rattle.terms.specs.Sound.{soundTest, fixedFirst, lineSound, allZero};
 
 pub fn sound(t: &[u64; 512], count: u16) -> bool
     ensures { λ r. ⌜ r ≡ soundTest (now (t .entry)) count ⌝ }
@@ -48,7 +49,7 @@ fn fixed_first(t: &[u64; 512]) -> bool
 }
 
 fn lines_sound(t: &[u64; 512], count: u16) -> bool
-    ensures { λ r. ⌜ r ≡ linesFrom count 0 (now (t .entry)) ⌝ }
+    ensures { λ r. ⌜ r ≡ each count (lineSound (now (t .entry))) ⌝ }
 {
     let mut i = 0;
     while i < count {

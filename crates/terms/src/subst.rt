@@ -2,9 +2,10 @@
 // the lent values. Asking how deep the result would be enters nothing; substituting enters new terms in the order
 // first part, second part, whole.
 use crate::entry::entered;
-use crate::line::depth_in;
+use crate::line::depth_at;
 use crate::line::ground_in;
 use crate::line::line_at;
+use crate::line::term_at;
 use crate::line::term_in;
 use crate::subbed::count_in;
 use crate::subbed::got_deep;
@@ -19,9 +20,8 @@ ghost use mathlib.Core.Path.{_≡_};
 ghost use Prim.Native.Nat.{_+_};
 ghost use lib.ListN.{getD};
 ghost use Rattle.terms.specs.Base.{held};
-ghost use Rattle.terms.specs.Subbed.{Label, subbed, subbedIn};
-ghost use Rattle.terms.specs.Subst.{planAt, fitsWithin, withFirst, withSecond, withBoth, secondOperand, substIn, takeBoth, deepOrFull, takeOperands};
-ghost use Rattle.terms.specs.Entry.{notTaken};
+ghost use Rattle.terms.specs.Subbed.{subbedIn};
+ghost use Rattle.terms.specs.Subst.{planAt, fitsWithin, withFirst, withSecond, withBoth, notTaken, secondOperand, substIn, takeBoth, deepOrFull, takeOperands};
 
 // What is to be done at a label: keep a label, or go down its parts.
 pub enum Plan {
@@ -83,7 +83,7 @@ pub fn fits_within(t: &[u64; 512], values: &[u16; 192], base: u16, label: u16, r
     }
     let p = plan_at(t, values, base, label);
     match p {
-        Plan::Keep(l) => depth_in(line_at(t, l)) <= room,
+        Plan::Keep(l) => depth_at(t, l) <= room,
         Plan::First(a) => fits_within(t, values, base, a, room - 1),
         Plan::Second(b) => fits_within(t, values, base, b, room - 1),
         Plan::Both(a, b) => {
@@ -115,29 +115,17 @@ pub fn subst(
         Plan::Keep(l) => got_label(l, count),
         Plan::First(a) => {
             let r = subst(t, count, values, base, a, left - 1);
-            if has_label(r) {
-                with_first(t, label, label_in(r), count_in(r))
-            } else {
-                r
-            }
+            with_first(t, label, r)
         }
         Plan::Second(b) => {
             let r = subst(t, count, values, base, b, left - 1);
-            if has_label(r) {
-                with_second(t, label, label_in(r), count_in(r))
-            } else {
-                r
-            }
+            with_second(t, label, r)
         }
         Plan::Both(a, b) => {
             let r = subst(t, count, values, base, a, left - 1);
             if has_label(r) {
                 let q = subst(t, count_in(r), values, base, b, left - 1);
-                if has_label(q) {
-                    with_both(t, label, label_in(r), label_in(q), count_in(q))
-                } else {
-                    q
-                }
+                with_both(t, label, label_in(r), q)
             } else {
                 r
             }
@@ -145,26 +133,35 @@ pub fn subst(
     }
 }
 
-// The term at label with another first part.
-fn with_first(t: &mut [u64; 512], label: u16, i: u16, count: u16) -> u64
-    ensures { λ r. ⌜ held (subbedIn r) (now (t .exit)) ≡ withFirst (now (t .entry)) label (subbed (Label i) count) ⌝ }
+// The term at label with another first part, where that has a label.
+fn with_first(t: &mut [u64; 512], label: u16, r: u64) -> u64
+    ensures { λ q. ⌜ held (subbedIn q) (now (t .exit)) ≡ withFirst (now (t .entry)) label (subbedIn r) ⌝ }
 {
-    let x = term_in(line_at(t, label));
-    entered(t, count, x.kind, i, x.b)
+    if has_label(r) {
+        let x = term_at(t, label);
+        return entered(t, count_in(r), x.kind, label_in(r), x.b);
+    }
+    r
 }
 
-fn with_second(t: &mut [u64; 512], label: u16, i: u16, count: u16) -> u64
-    ensures { λ r. ⌜ held (subbedIn r) (now (t .exit)) ≡ withSecond (now (t .entry)) label (subbed (Label i) count) ⌝ }
+fn with_second(t: &mut [u64; 512], label: u16, r: u64) -> u64
+    ensures { λ q. ⌜ held (subbedIn q) (now (t .exit)) ≡ withSecond (now (t .entry)) label (subbedIn r) ⌝ }
 {
-    let x = term_in(line_at(t, label));
-    entered(t, count, x.kind, x.a, i)
+    if has_label(r) {
+        let x = term_at(t, label);
+        return entered(t, count_in(r), x.kind, x.a, label_in(r));
+    }
+    r
 }
 
-fn with_both(t: &mut [u64; 512], label: u16, first: u16, i: u16, count: u16) -> u64
-    ensures { λ r. ⌜ held (subbedIn r) (now (t .exit)) ≡ withBoth (now (t .entry)) label first (subbed (Label i) count) ⌝ }
+fn with_both(t: &mut [u64; 512], label: u16, first: u16, r: u64) -> u64
+    ensures { λ q. ⌜ held (subbedIn q) (now (t .exit)) ≡ withBoth (now (t .entry)) label first (subbedIn r) ⌝ }
 {
-    let x = term_in(line_at(t, label));
-    entered(t, count, x.kind, first, i)
+    if has_label(r) {
+        let x = term_at(t, label);
+        return entered(t, count_in(r), x.kind, first, label_in(r));
+    }
+    r
 }
 
 // Both operands of an action, each walked once. Where there is no room it is asked whether one is too deep, since 8

@@ -1,16 +1,13 @@
 // The term table: 512 lines that the caller lends, of which the first count hold terms and the others are zero. A
 // label is a line's place.
 use crate::grade::grade_of;
-use crate::grade::grade_parts;
 use crate::line::Grade;
 use crate::line::known;
 use crate::line::pack;
 use crate::term::Term;
 use crate::term::after_parts;
 ghost use mathlib.Core.Path.{_≡_};
-ghost use Rattle.terms.specs.Base.{held};
-ghost use Rattle.terms.specs.Term.{term};
-ghost use Rattle.terms.specs.Table.{fixedLine, freshTable, Used, Free, findLine, findTerm, addTo, cutTo};
+ghost use Rattle.terms.specs.Table.{fixedLine, freshTable, Used, Free, findLine, findTerm, cutTo};
 
 pub struct Table {
     pub lines: [u64; 512],
@@ -51,7 +48,10 @@ impl Table {
         lines[0] = fixed_line(0);
         lines[1] = fixed_line(1);
         lines[2] = fixed_line(2);
-        Table { lines, count: 3 }
+        Table {
+            lines,
+            count: Table::FIXED,
+        }
     }
 }
 
@@ -121,51 +121,6 @@ pub fn find(t: &[u64; 512], count: u16, x: Term) -> Found
         return Found::Nothing;
     }
     find_line(t, after_parts(x), count, pack(x, g))
-}
-
-// Lists a term unless it is there.
-pub fn add(t: &mut [u64; 512], count: u16, x: Term) -> Added
-    ensures { λ r. ⌜ held r (now (t .exit)) ≡ addTo (now (t .entry)) count x ⌝ }
-{
-    add_parts(t, count, x.kind, x.a, x.b)
-}
-
-// The same of a term's fields: a struct would go through memory.
-fn add_parts(t: &mut [u64; 512], count: u16, kind: u8, a: u16, b: u16) -> Added
-    ensures { λ r. ⌜ held r (now (t .exit)) ≡ addTo (now (t .entry)) count (term kind a b) ⌝ }
-{
-    let g = grade_parts(t, kind, a, b);
-    if Term::DEPTH < g.depth {
-        return Added {
-            outcome: Outcome::Deep,
-            count,
-        };
-    }
-    let x = Term { kind, a, b };
-    let n = pack(x, g);
-    let f = find_line(t, after_parts(x), count, n);
-    match f {
-        Found::At(i) => Added {
-            outcome: Outcome::Listed(i),
-            count,
-        },
-        Found::Nothing => {
-            let free = free_entries(count);
-            if free == 0 {
-                return Added {
-                    outcome: Outcome::Full,
-                    count,
-                };
-            }
-            let i = count as usize;
-            let next = count + 1;
-            t[i] = n;
-            Added {
-                outcome: Outcome::New(count),
-                count: next,
-            }
-        }
-    }
 }
 
 // Back to an earlier count: the lines between the two counts are zero again.

@@ -1,8 +1,7 @@
 // A term as one line of the table: its kind and its two fields. What the fields of a kind are, parts, numbers or
 // unused, is decided here and nowhere else.
 ghost use mathlib.Core.Path.{_≡_};
-ghost use lib.Dec.{ltb};
-ghost use Rattle.terms.specs.Base.{pick, also};
+ghost use Rattle.terms.specs.Base.{also, largerOf};
 ghost use Rattle.terms.specs.Term.{shapeOf, inLimits, partsBelow, afterParts};
 
 pub struct Term {
@@ -43,37 +42,25 @@ pub enum Shape {
 pub fn shape_of(kind: u8) -> Shape
     ensures { λ r. ⌜ r ≡ shapeOf kind ⌝ }
 {
-    if kind == 0 {
-        return Shape::Number;
+    match kind {
+        0 => Shape::Number,
+        1 => Shape::Bare,
+        2 => Shape::Bare,
+        3 => Shape::Number,
+        4 => Shape::Number,
+        5 => Shape::Number,
+        6 => Shape::Variable,
+        7 => Shape::Number,
+        8 => Shape::Number,
+        9 => Shape::Joined,
+        10 => Shape::Sealed,
+        11 => Shape::Sealed,
+        12 => Shape::Sealed,
+        13 => Shape::Hashed,
+        14 => Shape::Joined,
+        15 => Shape::Applied,
+        _ => Shape::Unknown,
     }
-    if kind < 3 {
-        return Shape::Bare;
-    }
-    if kind < 6 {
-        return Shape::Number;
-    }
-    if kind == 6 {
-        return Shape::Variable;
-    }
-    if kind < 9 {
-        return Shape::Number;
-    }
-    if kind == 9 {
-        return Shape::Joined;
-    }
-    if kind < 13 {
-        return Shape::Sealed;
-    }
-    if kind == 13 {
-        return Shape::Hashed;
-    }
-    if kind == 14 {
-        return Shape::Joined;
-    }
-    if kind == 15 {
-        return Shape::Applied;
-    }
-    Shape::Unknown
 }
 
 // Both tests hold.
@@ -81,6 +68,12 @@ pub fn both(p: bool, q: bool) -> bool
     ensures { λ r. ⌜ r ≡ also p q ⌝ }
 {
     if p { q } else { false }
+}
+
+pub fn larger(m: u8, n: u8) -> u8
+    ensures { λ r. ⌜ r ≡ largerOf m n ⌝ }
+{
+    if m < n { n } else { m }
 }
 
 // The kind is known, unused fields are 0, a variable and a function are within their limits.
@@ -135,7 +128,7 @@ pub fn after_parts(x: Term) -> u16
 }
 
 pub fn later(a: u16, b: u16) -> u16
-    ensures { λ r. ⌜ r ≡ pick (ltb a b) b a ⌝ }
+    ensures { λ r. ⌜ r ≡ largerOf a b ⌝ }
 {
     if a < b { b } else { a }
 }

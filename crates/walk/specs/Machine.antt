@@ -22,7 +22,7 @@ pub record Machine : Type 1 where
   -- 'Every schedule runs from the model's fresh configuration'
   pub fresh : Conf
   pub try : Conf → ℕ → Outcome Conf
-  -- the real codes; 'only real codes make pairs'
+  -- the real codes: these alone make 'pairs of schedule and code'
   pub codes : List ℕ
   -- 'the next code to try (164: none left)'
   pub none : ℕ

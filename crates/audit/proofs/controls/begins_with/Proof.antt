@@ -7,9 +7,9 @@ use lib.Dec.{eqb}
 use borrow.Author.Tests.{ne-eqb, eq-eqb}
 use borrow.Author.Needs.{needs}
 use Rattle.terms.specs.Line.{lineAt}
-use Rattle.audit.specs.Each.{allFrom}
+use Rattle.terms.specs.Each.{allFrom}
 use Rattle.audit.specs.Configuration.{beginsWith}
-use Rattle.audit.proofs.Laws.{all-more, all-end}
+use Rattle.terms.proofs.Each.{all-more, all-end}
 use Rattle.audit.proofs.controls.begins_with.Statement.{statement}
 use Rattle.audit.proofs.controls.begins_with.Tie as tie
 

@@ -12,6 +12,9 @@ returns c = rw (lt-leb _ _ (c .if1 .taken))
 cast-most : tie.Need-cast-most
 cast-most c = search needs
 
+cast-most-2 : tie.Need-cast-most-2
+cast-most-2 c = search needs
+
 add-most : tie.Need-add-most
 add-most c = search needs
 
@@ -27,4 +30,4 @@ unfolding countersSound
 returns-3 c = rw (le-leb _ _ (c .before .before .before .before .if1 .left), le-leb _ _ (c .before .if2 .left))
 
 pub counters-sound-spec : {M : Type 1} → statement M
-counters-sound-spec = tie.close (tie.spec returns cast-most add-most cast-if2 returns-2 returns-3)
+counters-sound-spec = tie.close (tie.spec returns cast-most cast-most-2 add-most cast-if2 returns-2 returns-3)

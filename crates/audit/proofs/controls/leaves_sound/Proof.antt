@@ -7,8 +7,8 @@ use borrow.Author.Tests.{not-true, not-false}
 use borrow.Author.Needs.{needs}
 use Rattle.terms.specs.Line.{lineAt}
 use Rattle.audit.specs.Configuration.{leavesSound, leafSound}
-use Rattle.audit.specs.Each.{allFrom}
-use Rattle.audit.proofs.Laws.{all-more, all-end}
+use Rattle.terms.specs.Each.{allFrom}
+use Rattle.terms.proofs.Each.{all-more, all-end}
 use Rattle.audit.proofs.controls.leaves_sound.Statement.{statement}
 use Rattle.audit.proofs.controls.leaves_sound.Tie as tie
 

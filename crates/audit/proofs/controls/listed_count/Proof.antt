@@ -1,24 +1,23 @@
 -- `audit::controls::listed_count` meets its contract: the loop keeps that the whole count is what has been counted
 -- and what is still to come. The measure is what is left.
-use Prim.Native.Nat.{_-_}
+use Prim.Native.Nat.{_+_, _-_}
+use mathlib.Core.Path.{_≡_}
 use native.Mathlib.Omega.{arith}
-use lib.ListN.{getD}
-use lib.Dec.{ltb}
+use lib.ListN.{length, take, drop}
 use borrow.Author.Needs.{needs}
-use Rattle.audit.specs.Configuration.{listedCount, listedThere}
-use Rattle.audit.proofs.Laws.{Counted, counted-start, counted-more, counted-end}
+use Rattle.state.specs.FrameSound.{listedOn}
+use Rattle.audit.proofs.Laws.{listed-more, listed-end, Counted, counted-more, counted-end}
 use Rattle.audit.proofs.controls.listed_count.Statement.{statement}
 use Rattle.audit.proofs.controls.listed_count.Tie as tie
 
 abbrev Inv-loop : tie.InvT-loop
-Inv-loop listed k threads n₀ i₀ n i = Counted (listedCount threads listed k) 8 i n (λ j. listedThere (getD threads j 0) (ltb j listed) k)
+Inv-loop listed k threads n₀ i₀ n i = Counted (listedOn k (take listed threads)) n (listedOn k (drop i (take listed threads))) i
 
 abbrev μ-loop : tie.MeasureT-loop
 μ-loop listed k threads n₀ i₀ n i = 8 - i
 
 loop-holds : tie.Need-loop-holds Inv-loop μ-loop
-unfolding listedCount
-loop-holds c = counted-start 8 _
+loop-holds c = record { is = omega arith; small = omega arith }
 
 mul-listed-there : tie.Need-mul-listed-there Inv-loop μ-loop
 mul-listed-there c = search needs
@@ -29,11 +28,14 @@ array-read-listed-there c = search needs
 listed-there-requires : tie.Need-listed-there-requires Inv-loop μ-loop
 listed-there-requires c κs = search needs
 
-flag-requires : tie.Need-flag-requires Inv-loop μ-loop
-flag-requires c κs = search needs
+bit-requires : tie.Need-bit-requires Inv-loop μ-loop
+bit-requires c κs = search needs
+
+cast-n : tie.Need-cast-n Inv-loop μ-loop
+cast-n c = search needs
 
 add-n : tie.Need-add-n Inv-loop μ-loop
-add-n c = omega (arith, c .flag .ensures .small, c .before .before .before .loop .inv .small, c .before .before .loop-test .taken)
+add-n c = omega (arith, c .bit .ensures .small, c .before .before .before .loop .inv .small, c .before .before .loop-test .taken)
 
 add-i : tie.Need-add-i Inv-loop μ-loop
 add-i c = search needs
@@ -43,11 +45,18 @@ loop-less c = search needs
 
 loop-again : tie.Need-loop-again Inv-loop μ-loop
 loop-again c =
-    counted-more (c .before .before .before .loop .inv) (c .before .before .loop-test .taken) _
-    (rw (c .flag .ensures .is, c .before .listed-there .ensures)) (c .flag .ensures .small)
+    let l = c .before .before .before .loop in let a = c .before .before .before .before .args in
+    let long : length (a .t1) ≡ 8 = search needs in
+    counted-more (l .inv) _ (listedOn (a .k) (drop (l .i + 1) (take (a .listed) (a .t1))))
+    (rw (c .bit .ensures .is, c .before .listed-there .ensures)
+    (listed-more (a .k) (a .listed) (a .t1) (l .i) (omega (arith, long, c .before .before .loop-test .taken))))
+    (c .bit .ensures .small)
 
 returns : tie.Need-returns Inv-loop μ-loop
-returns c = counted-end (c .before .loop .inv) (c .loop-test .left)
+returns c =
+    let l = c .before .loop in let a = c .before .before .args in
+    let long : length (a .t1) ≡ 8 = search needs in
+    counted-end (l .inv) (listed-end (a .k) (a .listed) (a .t1) (l .i) (omega (arith, long, c .loop-test .left)))
 
 pub listed-count-spec : {M : Type 1} → statement M
 listed-count-spec =
@@ -59,7 +68,8 @@ listed-count-spec =
     mul-listed-there
     array-read-listed-there
     listed-there-requires
-    flag-requires
+    bit-requires
+    cast-n
     add-n
     add-i
     loop-less

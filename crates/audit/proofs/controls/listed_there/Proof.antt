@@ -1,6 +1,5 @@
 -- `audit::controls::listed_there` meets its contract: the callees' answers put together.
 use borrow.Author.Needs.{needs}
-use Rattle.audit.specs.Configuration.{listedThere}
 use Rattle.audit.proofs.controls.listed_there.Statement.{statement}
 use Rattle.audit.proofs.controls.listed_there.Tie as tie
 
@@ -11,7 +10,6 @@ both-requires : tie.Need-both-requires
 both-requires c κs = search needs
 
 returns : tie.Need-returns
-unfolding listedThere
 returns c = rw (← (c .before .before .thread-in .ensures), ← (c .both .ensures))
 
 pub listed-there-spec : {M : Type 1} → statement M

@@ -1,24 +1,23 @@
 -- `audit::controls::live_count` meets its contract: the loop keeps that the whole count is what has been counted and
 -- what is still to come. The measure is what is left.
-use Prim.Native.Nat.{_-_}
+use Prim.Native.Nat.{_+_, _-_}
+use mathlib.Core.Path.{_≡_}
 use native.Mathlib.Omega.{arith}
-use lib.ListN.{getD}
+use lib.ListN.{length, drop}
 use borrow.Author.Needs.{needs}
-use Rattle.state.specs.Reset.{isOn}
-use Rattle.audit.specs.Configuration.{liveCount}
-use Rattle.audit.proofs.Laws.{Counted, counted-start, counted-more, counted-end}
+use Rattle.state.specs.FrameSound.{liveOn}
+use Rattle.audit.proofs.Laws.{live-more, live-end, Counted, counted-more, counted-end}
 use Rattle.audit.proofs.controls.live_count.Statement.{statement}
 use Rattle.audit.proofs.controls.live_count.Tie as tie
 
 abbrev Inv-loop : tie.InvT-loop
-Inv-loop k slots n₀ i₀ n i = Counted (liveCount slots k) 12 i n (λ j. isOn (getD slots j 0) k)
+Inv-loop k slots n₀ i₀ n i = Counted (liveOn k slots) n (liveOn k (drop i slots)) i
 
 abbrev μ-loop : tie.MeasureT-loop
 μ-loop k slots n₀ i₀ n i = 12 - i
 
 loop-holds : tie.Need-loop-holds Inv-loop μ-loop
-unfolding liveCount
-loop-holds c = counted-start 12 _
+loop-holds c = record { is = omega arith; small = omega arith }
 
 mul-is-on : tie.Need-mul-is-on Inv-loop μ-loop
 mul-is-on c = search needs
@@ -29,11 +28,14 @@ array-read-is-on c = search needs
 is-on-requires : tie.Need-is-on-requires Inv-loop μ-loop
 is-on-requires c κs = search needs
 
-flag-requires : tie.Need-flag-requires Inv-loop μ-loop
-flag-requires c κs = search needs
+bit-requires : tie.Need-bit-requires Inv-loop μ-loop
+bit-requires c κs = search needs
+
+cast-n : tie.Need-cast-n Inv-loop μ-loop
+cast-n c = search needs
 
 add-n : tie.Need-add-n Inv-loop μ-loop
-add-n c = omega (arith, c .flag .ensures .small, c .before .before .before .loop .inv .small, c .before .before .loop-test .taken)
+add-n c = omega (arith, c .bit .ensures .small, c .before .before .before .loop .inv .small, c .before .before .loop-test .taken)
 
 add-i : tie.Need-add-i Inv-loop μ-loop
 add-i c = search needs
@@ -43,11 +45,17 @@ loop-less c = search needs
 
 loop-again : tie.Need-loop-again Inv-loop μ-loop
 loop-again c =
-    counted-more (c .before .before .before .loop .inv) (c .before .before .loop-test .taken) _
-    (rw (c .flag .ensures .is, c .before .is-on .ensures)) (c .flag .ensures .small)
+    let l = c .before .before .before .loop in let a = c .before .before .before .before .args in
+    let long : length (a .t1) ≡ 12 = search needs in
+    counted-more (l .inv) _ (liveOn (a .k) (drop (l .i + 1) (a .t1)))
+    (rw (c .bit .ensures .is, c .before .is-on .ensures) (live-more (a .k) (a .t1) (l .i) (omega (arith, long, c .before .before .loop-test .taken))))
+    (c .bit .ensures .small)
 
 returns : tie.Need-returns Inv-loop μ-loop
-returns c = counted-end (c .before .loop .inv) (c .loop-test .left)
+returns c =
+    let l = c .before .loop in let a = c .before .before .args in
+    let long : length (a .t1) ≡ 12 = search needs in
+    counted-end (l .inv) (live-end (a .k) (a .t1) (l .i) (omega (arith, long, c .loop-test .left)))
 
 pub live-count-spec : {M : Type 1} → statement M
 live-count-spec =
@@ -59,7 +67,8 @@ live-count-spec =
     mul-is-on
     array-read-is-on
     is-on-requires
-    flag-requires
+    bit-requires
+    cast-n
     add-n
     add-i
     loop-less

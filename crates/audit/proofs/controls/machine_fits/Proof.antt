@@ -1,5 +1,6 @@
 -- `audit::controls::machine_fits` meets its contract: the callees' answers put together.
 use borrow.Author.Needs.{needs}
+use Rattle.state.specs.FrameSound.{mostAmong}
 use Rattle.audit.specs.Configuration.{machineFits}
 use Rattle.audit.proofs.controls.machine_fits.Statement.{statement}
 use Rattle.audit.proofs.controls.machine_fits.Tie as tie
@@ -14,7 +15,7 @@ most-of-requires : tie.Need-most-of-requires
 most-of-requires c κs = search needs
 
 returns : tie.Need-returns
-unfolding machineFits
+unfolding machineFits mostAmong
 returns c =
     rw (← (c .before .before .live-count .ensures), ← (c .before .listed-count .ensures), ← (c .most-of .ensures))
 

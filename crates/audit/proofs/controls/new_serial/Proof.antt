@@ -7,8 +7,8 @@ use native.Mathlib.Nat.{sub-zero}
 use borrow.Author.Needs.{needs}
 use Rattle.state.specs.Slot.{slotAt}
 use Rattle.audit.specs.Configuration.{newSerial, sameSerial}
-use Rattle.audit.specs.Each.{allFrom}
-use Rattle.audit.proofs.Laws.{all-more, all-end}
+use Rattle.terms.specs.Each.{allFrom}
+use Rattle.terms.proofs.Each.{all-more, all-end}
 use Rattle.audit.proofs.controls.new_serial.Statement.{statement}
 use Rattle.audit.proofs.controls.new_serial.Tie as tie
 

@@ -5,8 +5,8 @@ use mathlib.Core.Path.{refl, _≡_}
 use borrow.Author.Tests.{not-true, not-false}
 use borrow.Author.Needs.{needs}
 use Rattle.audit.specs.Configuration.{threadsFit, machineFits}
-use Rattle.audit.specs.Each.{allFrom}
-use Rattle.audit.proofs.Laws.{all-more, all-end}
+use Rattle.terms.specs.Each.{allFrom}
+use Rattle.terms.proofs.Each.{all-more, all-end}
 use Rattle.audit.proofs.controls.threads_fit.Statement.{statement}
 use Rattle.audit.proofs.controls.threads_fit.Tie as tie
 

@@ -7,8 +7,8 @@ use lib.ListN.{getD}
 use borrow.Author.Tests.{not-true, not-false}
 use borrow.Author.Needs.{needs}
 use Rattle.audit.specs.Configuration.{valuesSound, valueSound}
-use Rattle.audit.specs.Each.{allFrom}
-use Rattle.audit.proofs.Laws.{all-more, all-end}
+use Rattle.terms.specs.Each.{allFrom}
+use Rattle.terms.proofs.Each.{all-more, all-end}
 use Rattle.audit.proofs.controls.values_sound.Statement.{statement}
 use Rattle.audit.proofs.controls.values_sound.Tie as tie
 

@@ -7,8 +7,8 @@ use borrow.Author.Tests.{not-true, not-false}
 use borrow.Author.Needs.{needs}
 use Rattle.state.specs.Slot.{slotAt}
 use Rattle.audit.specs.Configuration.{varsSound, varSound}
-use Rattle.audit.specs.Each.{allFrom}
-use Rattle.audit.proofs.Laws.{all-more, all-end}
+use Rattle.terms.specs.Each.{allFrom}
+use Rattle.terms.proofs.Each.{all-more, all-end}
 use Rattle.audit.proofs.controls.vars_sound.Statement.{statement}
 use Rattle.audit.proofs.controls.vars_sound.Tie as tie
 

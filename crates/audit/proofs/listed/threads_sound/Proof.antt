@@ -7,8 +7,8 @@ use lib.ListN.{getD}
 use borrow.Author.Tests.{lt-leb, le-leb, not-true, not-false}
 use borrow.Author.Needs.{needs}
 use Rattle.audit.specs.Listed.{threadsSound, threadSound}
-use Rattle.audit.specs.Each.{allFrom}
-use Rattle.audit.proofs.Laws.{all-more, all-end}
+use Rattle.terms.specs.Each.{allFrom}
+use Rattle.terms.proofs.Each.{all-more, all-end}
 use Rattle.audit.proofs.listed.threads_sound.Statement.{statement}
 use Rattle.audit.proofs.listed.threads_sound.Tie as tie
 

@@ -1,20 +1,16 @@
 -- `audit::models::names_program` meets its contract: the definition's one test.
 use borrow.Author.Tests.{eq-eqb, ne-eqb}
-use borrow.Author.Needs.{needs}
 use Rattle.audit.specs.Models.{namesProgram}
 use Rattle.audit.proofs.models.names_program.Statement.{statement}
 use Rattle.audit.proofs.models.names_program.Tie as tie
 
-term-in-requires : tie.Need-term-in-requires
-term-in-requires c κs = search needs
-
 returns : tie.Need-returns
 unfolding namesProgram
-returns c = rw (← (c .before .before .before .term-in .ensures), eq-eqb _ _ (c .before .if1 .taken))
+returns c = rw (eq-eqb _ _ (c .before .if1 .taken))
 
 returns-2 : tie.Need-returns-2
 unfolding namesProgram
-returns-2 c = rw (← (c .before .before .term-in .ensures), ne-eqb _ _ (c .if1 .left))
+returns-2 c = rw (ne-eqb _ _ (c .if1 .left))
 
 pub names-program-spec : {M : Type 1} → statement M
-names-program-spec = tie.close (tie.spec term-in-requires returns returns-2)
+names-program-spec = tie.close (tie.spec returns returns-2)

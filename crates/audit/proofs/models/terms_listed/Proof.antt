@@ -6,8 +6,8 @@ use borrow.Author.Tests.{not-true, not-false}
 use borrow.Author.Needs.{needs}
 use Rattle.terms.specs.Line.{lineAt}
 use Rattle.audit.specs.Models.{termsListed, mayBeListed}
-use Rattle.audit.specs.Each.{allFrom}
-use Rattle.audit.proofs.Laws.{all-more, all-end}
+use Rattle.terms.specs.Each.{allFrom}
+use Rattle.terms.proofs.Each.{all-more, all-end}
 use Rattle.audit.proofs.models.terms_listed.Statement.{statement}
 use Rattle.audit.proofs.models.terms_listed.Tie as tie
 

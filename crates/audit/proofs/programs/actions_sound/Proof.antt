@@ -4,14 +4,15 @@ use Prim.Native.Nat.{_-_}
 use mathlib.Core.Path.{refl, _≡_}
 use borrow.Author.Tests.{not-true, not-false}
 use borrow.Author.Needs.{needs}
-use Rattle.audit.specs.Programs.{actionsSound, actionSound, numberOf}
-use Rattle.audit.specs.Each.{allFrom}
-use Rattle.audit.proofs.Laws.{all-more, all-end}
+use Rattle.model.specs.Records.{actionNumber}
+use Rattle.audit.specs.Programs.{actionsSound, actionSound}
+use Rattle.terms.specs.Each.{allFrom}
+use Rattle.terms.proofs.Each.{all-more, all-end}
 use Rattle.audit.proofs.programs.actions_sound.Statement.{statement}
 use Rattle.audit.proofs.programs.actions_sound.Tie as tie
 
 abbrev Inv-loop : tie.InvT-loop
-Inv-loop actions locations known p length locs count k₀ k = actionsSound actions locations known p length locs count ≡ allFrom (16 - k) k (λ j. actionSound (numberOf actions p j) locations known j length locs count)
+Inv-loop actions locations known p length locs count k₀ k = actionsSound actions locations known p length locs count ≡ allFrom (16 - k) k (λ j. actionSound (actionNumber actions p j) locations known j length locs count)
 
 abbrev μ-loop : tie.MeasureT-loop
 μ-loop actions locations known p length locs count k₀ k = 16 - k
@@ -20,8 +21,8 @@ loop-holds : tie.Need-loop-holds Inv-loop μ-loop
 unfolding actionsSound
 loop-holds c = refl
 
-number-of-requires : tie.Need-number-of-requires Inv-loop μ-loop
-number-of-requires c κs = search needs
+action-number-requires : tie.Need-action-number-requires Inv-loop μ-loop
+action-number-requires c κs = search needs
 
 action-sound-requires : tie.Need-action-sound-requires Inv-loop μ-loop
 action-sound-requires c κs = search needs
@@ -32,7 +33,7 @@ returns c =
     rw (
       p4 .loop .inv,
       all-more _ (p4 .loop .k) _ (p3 .loop-test .taken),
-      ← (p2 .number-of .ensures),
+      ← (p2 .action-number .ensures),
       ← (c .before .action-sound .ensures),
       not-true (c .before .action-sound .result) (c .if1 .taken),
     )
@@ -49,7 +50,7 @@ loop-again c =
     rw (
       p4 .loop .inv,
       all-more _ (p4 .loop .k) _ (p3 .loop-test .taken),
-      ← (p2 .number-of .ensures),
+      ← (p2 .action-number .ensures),
       ← (c .before .action-sound .ensures),
       not-false (c .before .action-sound .result) (c .if1 .left),
     )
@@ -64,7 +65,7 @@ actions-sound-spec =
     Inv-loop
     μ-loop
     loop-holds
-    number-of-requires
+    action-number-requires
     action-sound-requires
     returns
     add-k

@@ -5,14 +5,15 @@ use mathlib.Core.Path.{refl, _≡_}
 use lib.Dec.{eqb}
 use borrow.Author.Tests.{ne-eqb, eq-eqb}
 use borrow.Author.Needs.{needs}
-use Rattle.audit.specs.Programs.{equalActions, numberOf}
-use Rattle.audit.specs.Each.{allFrom}
-use Rattle.audit.proofs.Laws.{all-more, all-end}
+use Rattle.model.specs.Records.{actionNumber}
+use Rattle.audit.specs.Programs.{equalActions}
+use Rattle.terms.specs.Each.{allFrom}
+use Rattle.terms.proofs.Each.{all-more, all-end}
 use Rattle.audit.proofs.programs.equal_actions.Statement.{statement}
 use Rattle.audit.proofs.programs.equal_actions.Tie as tie
 
 abbrev Inv-loop : tie.InvT-loop
-Inv-loop actions q p k₀ k = equalActions actions q p ≡ allFrom (16 - k) k (λ j. eqb (numberOf actions q j) (numberOf actions p j))
+Inv-loop actions q p k₀ k = equalActions actions q p ≡ allFrom (16 - k) k (λ j. eqb (actionNumber actions q j) (actionNumber actions p j))
 
 abbrev μ-loop : tie.MeasureT-loop
 μ-loop actions q p k₀ k = 16 - k
@@ -21,11 +22,11 @@ loop-holds : tie.Need-loop-holds Inv-loop μ-loop
 unfolding equalActions
 loop-holds c = refl
 
-number-of-requires : tie.Need-number-of-requires Inv-loop μ-loop
-number-of-requires c κs = search needs
+action-number-requires : tie.Need-action-number-requires Inv-loop μ-loop
+action-number-requires c κs = search needs
 
-number-of-requires-2 : tie.Need-number-of-requires-2 Inv-loop μ-loop
-number-of-requires-2 c κs = search needs
+action-number-requires-2 : tie.Need-action-number-requires-2 Inv-loop μ-loop
+action-number-requires-2 c κs = search needs
 
 returns : tie.Need-returns Inv-loop μ-loop
 returns c =
@@ -33,8 +34,8 @@ returns c =
     rw (
       p4 .loop .inv,
       all-more _ (p4 .loop .k) _ (p3 .loop-test .taken),
-      ← (p2 .number-of .ensures),
-      ← (c .before .number-of2 .ensures),
+      ← (p2 .action-number .ensures),
+      ← (c .before .action-number2 .ensures),
       ne-eqb _ _ (c .if1 .taken),
     )
 
@@ -50,8 +51,8 @@ loop-again c =
     rw (
       p4 .loop .inv,
       all-more _ (p4 .loop .k) _ (p3 .loop-test .taken),
-      ← (p2 .number-of .ensures),
-      ← (c .before .number-of2 .ensures),
+      ← (p2 .action-number .ensures),
+      ← (c .before .action-number2 .ensures),
       eq-eqb _ _ (c .if1 .left),
     )
 
@@ -65,8 +66,8 @@ equal-actions-spec =
     Inv-loop
     μ-loop
     loop-holds
-    number-of-requires
-    number-of-requires-2
+    action-number-requires
+    action-number-requires-2
     returns
     add-k
     loop-less

@@ -6,8 +6,8 @@ use mathlib.Core.Bool.{not}
 use native.Mathlib.Nat.{sub-zero}
 use borrow.Author.Needs.{needs}
 use Rattle.audit.specs.Programs.{newProgram, equalPrograms}
-use Rattle.audit.specs.Each.{allFrom}
-use Rattle.audit.proofs.Laws.{all-more, all-end}
+use Rattle.terms.specs.Each.{allFrom}
+use Rattle.terms.proofs.Each.{all-more, all-end}
 use Rattle.audit.proofs.programs.new_program.Statement.{statement}
 use Rattle.audit.proofs.programs.new_program.Tie as tie
 

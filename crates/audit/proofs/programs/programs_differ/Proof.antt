@@ -6,8 +6,8 @@ use native.Mathlib.Nat.{sub-zero}
 use borrow.Author.Tests.{not-true, not-false}
 use borrow.Author.Needs.{needs}
 use Rattle.audit.specs.Programs.{programsDiffer, newProgram}
-use Rattle.audit.specs.Each.{allFrom}
-use Rattle.audit.proofs.Laws.{all-more, all-end}
+use Rattle.terms.specs.Each.{allFrom}
+use Rattle.terms.proofs.Each.{all-more, all-end}
 use Rattle.audit.proofs.programs.programs_differ.Statement.{statement}
 use Rattle.audit.proofs.programs.programs_differ.Tie as tie
 

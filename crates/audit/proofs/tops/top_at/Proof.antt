@@ -1,12 +1,9 @@
--- `audit::tops::top_at` meets its contract: within the array what stands there, past it 0.
+-- `audit::tops::top_at` meets its contract: the label is in the table, or not.
 use borrow.Author.Tests.{lt-ltb, le-ltb}
 use borrow.Author.Needs.{needs}
 use Rattle.audit.specs.Tops.{topAt}
 use Rattle.audit.proofs.tops.top_at.Statement.{statement}
 use Rattle.audit.proofs.tops.top_at.Tie as tie
-
-mul-result : tie.Need-mul-result
-mul-result c = search needs
 
 element-copy-out-result : tie.Need-element-copy-out-result
 element-copy-out-result c = search needs
@@ -20,4 +17,4 @@ unfolding topAt
 returns-2 c = rw (le-ltb _ _ (c .if1 .left))
 
 pub top-at-spec : {M : Type 1} → statement M
-top-at-spec = tie.close (tie.spec mul-result element-copy-out-result returns returns-2)
+top-at-spec = tie.close (tie.spec element-copy-out-result returns returns-2)

@@ -18,14 +18,17 @@ loop-holds : tie.Need-loop-holds Inv-loop μ-loop
 unfolding topsOf
 loop-holds c = refl
 
-cast-label : tie.Need-cast-label Inv-loop μ-loop
-cast-label c = search needs
+cast-line-at : tie.Need-cast-line-at Inv-loop μ-loop
+cast-line-at c = search needs
+
+line-at-requires : tie.Need-line-at-requires Inv-loop μ-loop
+line-at-requires c κs = search needs
+
+term-in-requires : tie.Need-term-in-requires Inv-loop μ-loop
+term-in-requires c κs = search needs
 
 top-of-requires : tie.Need-top-of-requires Inv-loop μ-loop
 top-of-requires c κs = search needs
-
-mul-out : tie.Need-mul-out Inv-loop μ-loop
-mul-out c = search needs
 
 array-write-out : tie.Need-array-write-out Inv-loop μ-loop
 array-write-out c = search needs
@@ -38,8 +41,14 @@ loop-less c = search needs
 
 loop-again : tie.Need-loop-again Inv-loop μ-loop
 loop-again c =
-    let p2 = c .before .before in let p3 = p2 .before in
-    rw (p3 .loop .inv, tops-more _ (p3 .loop .i) _ _ (p2 .loop-test .taken), ← (c .top-of .ensures))
+    let p2 = c .before .before in let p3 = p2 .before in let p4 = p3 .before in let p5 = p4 .before in
+    rw (
+      p5 .loop .inv,
+      tops-more _ (p5 .loop .i) _ _ (p4 .loop-test .taken),
+      ← (p3 .line-at .ensures),
+      ← (p2 .term-in .ensures),
+      ← (c .top-of .ensures),
+    )
 
 returns : tie.Need-returns Inv-loop μ-loop
 returns c = rw (c .before .loop .inv, tops-end _ (c .before .loop .i) _ _ (c .loop-test .left))
@@ -51,9 +60,10 @@ tops-spec =
     Inv-loop
     μ-loop
     loop-holds
-    cast-label
+    cast-line-at
+    line-at-requires
+    term-in-requires
     top-of-requires
-    mul-out
     array-write-out
     add-i
     loop-less

@@ -5,8 +5,8 @@ use mathlib.Core.Path.{_≡_, refl, _∙_}
 use native.Mathlib.Nat.{sub-zero}
 use lib.ListN.{length, length-set}
 use borrow.Author.Needs.{needs}
-use Rattle.rules.specs.Effect.{filled}
-use Rattle.rules.proofs.Loops.{fill-more, fill-end}
+use Rattle.terms.specs.Base.{filled}
+use Rattle.terms.proofs.Laws.{fill-more, fill-end}
 use Rattle.machine.specs.Run.{allRefused}
 use Rattle.machine.proofs.run.all_refused.Statement.{statement}
 use Rattle.machine.proofs.run.all_refused.Tie as tie

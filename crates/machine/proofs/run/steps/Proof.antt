@@ -1,7 +1,7 @@
 -- `machine::run::steps` meets its contract: the loop keeps that the course from the first code on is the course of
 -- the codes left, and that the lent tables keep their lengths. The measure is the codes left.
 use Prim.Native.Nat.{_-_, _<_, _≤_}
-use mathlib.Core.Path.{_≡_, refl}
+use mathlib.Core.Path.{_≡_, refl, ap}
 use native.Mathlib.Omega.{arith}
 use lib.ListN.{length, take, drop, length-set}
 use borrow.Author.Needs.{needs}
@@ -13,19 +13,24 @@ use Rattle.machine.proofs.run.steps.Statement.{statement}
 use Rattle.machine.proofs.run.steps.Tie as tie
 
 abbrev Inv-loop : tie.InvT-loop
-Inv-loop t₀ actions lengths machines machine-count locations codes answers₀ records₀ n control₀ events₀ i₀ t answers records control events i =
-    (stepsFrom (take n codes) 0 (layout actions lengths machines locations) machine-count t₀ answers₀ records₀ control₀ 0
-    ≡ stepsFrom (drop i (take n codes)) i (layout actions lengths machines locations) machine-count t answers records control events)
+Inv-loop t₀ actions lengths machines machine-count locations codes answers₀ records₀ n u₀ i₀ t answers records u i =
+    (stepsFrom (take n codes) 0 (layout actions lengths machines locations) machine-count t₀ answers₀ records₀ (u₀ .control) 0
+    ≡ stepsFrom (drop i (take n codes)) i (layout actions lengths machines locations) machine-count t answers records
+    (u .control) (u .events))
     × (length answers ≡ length answers₀) × (length records ≡ length records₀) × (n ≤ length codes) × (n ≤ length answers₀) × (i ≤ n)
 
 abbrev μ-loop : tie.MeasureT-loop
-μ-loop t₀ actions lengths machines machine-count locations codes answers₀ records₀ n control₀ events₀ i₀ t answers records control events i = n - i
+μ-loop t₀ actions lengths machines machine-count locations codes answers₀ records₀ n u₀ i₀ t answers records u i = n - i
 
 shorter-requires : tie.Need-shorter-requires Inv-loop μ-loop
 shorter-requires c κs = search needs
 
+at-first-requires : tie.Need-at-first-requires Inv-loop μ-loop
+at-first-requires c κs = search needs
+
 loop-holds : tie.Need-loop-holds Inv-loop μ-loop
-loop-holds c = (refl, refl, refl, c .shorter .ensures .first, c .shorter .ensures .second, search needs)
+loop-holds c =
+    let q = c .before .shorter .ensures in (rw (c .at-first .ensures), refl, refl, q .first, q .second, search needs)
 
 mul-code : tie.Need-mul-code Inv-loop μ-loop
 mul-code c = search needs
@@ -57,13 +62,14 @@ same-length-2 c = search needs
 returns : tie.Need-returns Inv-loop μ-loop
 unfolding stepsOn
 returns c =
-    let p6 = c .before .before .before .before .before .before in let p10 = p6 .before .before .before .before in
-    let p11 = p10 .before in let l = p11 .loop in
+    let p5 = c .before .before .before .before .before in let p9 = p5 .before .before .before .before in
+    let p10 = p9 .before in let l = p10 .loop in
     rw (
-      ← (p11 .before .shorter .ensures .is),
+      ← (p10 .before .before .shorter .ensures .is),
+      ← (ap (λ u. u .control) (p10 .before .at-first .ensures)),
       l .inv .0,
-      steps-more _ _ (l .i) _ _ (l .t) (l .answers) (l .records) (l .control) (l .events) (p10 .loop-test .taken) (l .inv .3),
-      ← (p6 .one-turn .ensures),
+      steps-more _ _ (l .i) _ _ (l .t) (l .answers) (l .records) (l .u .control) (l .u .events) (p9 .loop-test .taken) (l .inv .3),
+      ← (p5 .one-turn .ensures),
       eq-eqb _ _ (c .before .if1 .taken),
       ← (c .after-run .ensures),
     )
@@ -73,12 +79,12 @@ loop-less c = search needs
 
 loop-again : tie.Need-loop-again Inv-loop μ-loop
 loop-again c =
-    let p5 = c .before .before .before .before .before in let p9 = p5 .before .before .before .before in
-    let l = p9 .before .loop in (
+    let p4 = c .before .before .before .before in let p8 = p4 .before .before .before .before in
+    let l = p8 .before .loop in (
       rw (
         l .inv .0,
-        steps-more _ _ (l .i) _ _ (l .t) (l .answers) (l .records) (l .control) (l .events) (p9 .loop-test .taken) (l .inv .3),
-        ← (p5 .one-turn .ensures),
+        steps-more _ _ (l .i) _ _ (l .t) (l .answers) (l .records) (l .u .control) (l .u .events) (p8 .loop-test .taken) (l .inv .3),
+        ← (p4 .one-turn .ensures),
         ne-eqb _ _ (c .if1 .left),
       ),
       rw length-set (l .inv .1),
@@ -100,12 +106,13 @@ same-length-4 c = search needs
 returns-2 : tie.Need-returns-2 Inv-loop μ-loop
 unfolding stepsOn
 returns-2 c =
-    let l = c .before .before .loop in
-    let e : l .i ≡ c .before .before .before .shorter .result = omega (arith, l .inv .5, c .before .loop-test .left) in
+    let p2 = c .before .before in let l = p2 .loop in
+    let e : l .i ≡ p2 .before .before .shorter .result = omega (arith, l .inv .5, c .before .loop-test .left) in
     rw (
-      ← (c .before .before .before .shorter .ensures .is),
+      ← (p2 .before .before .shorter .ensures .is),
+      ← (ap (λ u. u .control) (p2 .before .at-first .ensures)),
       l .inv .0,
-      steps-end _ _ (l .i) _ _ (l .t) (l .answers) (l .records) (l .control) (l .events) (c .before .loop-test .left),
+      steps-end _ _ (l .i) _ _ (l .t) (l .answers) (l .records) (l .u .control) (l .u .events) (c .before .loop-test .left),
       e,
       ← (c .after-run2 .ensures),
     )
@@ -117,6 +124,7 @@ steps-spec =
     Inv-loop
     μ-loop
     shorter-requires
+    at-first-requires
     loop-holds
     mul-code
     shared-slice-read-code

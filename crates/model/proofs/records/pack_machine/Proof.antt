@@ -1,4 +1,4 @@
--- `model::records::pack_machine` meets its contract: the definition word for word; the flag is 0 or 1.
+-- `model::records::pack_machine` meets its contract: the definition word for word; the bit is 0 or 1.
 use borrow.Author.Needs.{needs}
 use Rattle.model.specs.Records.{packMachine}
 use Rattle.model.proofs.records.pack_machine.Statement.{statement}
@@ -10,8 +10,11 @@ cast-boot c = search needs
 cast-launch : tie.Need-cast-launch
 cast-launch c = search needs
 
-flag-requires : tie.Need-flag-requires
-flag-requires c κs = search needs
+bit-requires : tie.Need-bit-requires
+bit-requires c κs = search needs
+
+cast-protected : tie.Need-cast-protected
+cast-protected c = search needs
 
 mul-result : tie.Need-mul-result
 mul-result c = search needs
@@ -27,7 +30,7 @@ add-result-2 c = search needs
 
 returns : tie.Need-returns
 unfolding packMachine
-returns c = rw (← (c .flag .ensures .is))
+returns c = rw (← (c .bit .ensures .is))
 
 pub pack-machine-spec : {M : Type 1} → statement M
 pack-machine-spec =
@@ -35,7 +38,8 @@ pack-machine-spec =
     (tie.spec
     cast-boot
     cast-launch
-    flag-requires
+    bit-requires
+    cast-protected
     mul-result
     mul-result-2
     add-result

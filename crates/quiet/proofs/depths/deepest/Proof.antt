@@ -24,8 +24,8 @@ loop-holds c = rw (← (c .used .ensures .is))
 depth-at-requires : tie.Need-depth-at-requires Inv-loop μ-loop
 depth-at-requires c κs = search needs
 
-deeper-requires : tie.Need-deeper-requires Inv-loop μ-loop
-deeper-requires c κs = search needs
+larger-requires : tie.Need-larger-requires Inv-loop μ-loop
+larger-requires c κs = search needs
 
 add-i : tie.Need-add-i Inv-loop μ-loop
 add-i c = search needs
@@ -36,7 +36,7 @@ loop-less c = search needs
 loop-again : tie.Need-loop-again Inv-loop μ-loop
 loop-again c =
     let l = c .before .before .before .loop in
-    rw (l .inv, deepest-more _ _ (l .i) (l .deep) (c .before .before .loop-test .taken), ← (c .before .depth-at .ensures), ← (c .deeper .ensures))
+    rw (l .inv, deepest-more _ _ (l .i) (l .deep) (c .before .before .loop-test .taken), ← (c .before .depth-at .ensures), ← (c .larger .ensures))
 
 returns : tie.Need-returns Inv-loop μ-loop
 returns c = rw (c .before .loop .inv, deepest-end _ _ (c .before .loop .i) (c .before .loop .deep) (c .loop-test .left))
@@ -50,7 +50,7 @@ deepest-spec =
     used-requires
     loop-holds
     depth-at-requires
-    deeper-requires
+    larger-requires
     add-i
     loop-less
     loop-again

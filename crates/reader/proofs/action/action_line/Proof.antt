@@ -4,11 +4,11 @@ use Rattle.reader.specs.ALine.{actionLine}
 use Rattle.reader.proofs.action.action_line.Statement.{statement}
 use Rattle.reader.proofs.action.action_line.Tie as tie
 
-array-read-capped : tie.Need-array-read-capped
-array-read-capped c = search needs
+array-read-up-to-255 : tie.Need-array-read-up-to-255
+array-read-up-to-255 c = search needs
 
-capped-requires : tie.Need-capped-requires
-capped-requires c κs = search needs
+up-to-255-requires : tie.Need-up-to-255-requires
+up-to-255-requires c κs = search needs
 
 length-at-requires : tie.Need-length-at-requires
 length-at-requires c κs = search needs
@@ -19,9 +19,9 @@ action-next-requires c κs = search needs
 returns : tie.Need-returns
 unfolding actionLine
 returns c = let p2 = c .before .before in
-    rw (← (p2 .before .before .before .capped .ensures), ← (p2 .length-at .ensures)) (c .action-next .ensures)
+    rw (← (p2 .before .before .before .up-to-255 .ensures), ← (p2 .length-at .ensures)) (c .action-next .ensures)
 
 pub action-line-spec : {M : Type 1} → statement M
 action-line-spec =
     tie.close
-    (tie.spec array-read-capped capped-requires length-at-requires action-next-requires returns)
+    (tie.spec array-read-up-to-255 up-to-255-requires length-at-requires action-next-requires returns)

@@ -9,12 +9,12 @@ returns : tie.Need-returns
 unfolding labelBad
 returns c = rw (le-leb _ _ (c .if1 .taken))
 
-need-at-requires : tie.Need-need-at-requires
-need-at-requires c κs = search needs
+top-at-requires : tie.Need-top-at-requires
+top-at-requires c κs = search needs
 
 returns-2 : tie.Need-returns-2
 unfolding labelBad
-returns-2 c = rw (lt-leb _ _ (c .before .if1 .left), ← (c .need-at .ensures))
+returns-2 c = rw (lt-leb _ _ (c .before .if1 .left), ← (c .top-at .ensures))
 
 pub label-bad-spec : {M : Type 1} → statement M
-label-bad-spec = tie.close (tie.spec returns need-at-requires returns-2)
+label-bad-spec = tie.close (tie.spec returns top-at-requires returns-2)

@@ -76,11 +76,11 @@ returns-4 c =
       c .if4 .taken,
     )
 
-array-read-capped : tie.Need-array-read-capped
-array-read-capped c = search needs
+array-read-up-to-255 : tie.Need-array-read-up-to-255
+array-read-up-to-255 c = search needs
 
-capped-requires : tie.Need-capped-requires
-capped-requires c κs = search needs
+up-to-255-requires : tie.Need-up-to-255-requires
+up-to-255-requires c κs = search needs
 
 array-read-location-kind25 : tie.Need-array-read-location-kind25
 array-read-location-kind25 c = search needs
@@ -103,7 +103,7 @@ returns-5 c =
       p5 .if3 .left,
       ← (p4 .location-names23 .ensures),
       p3 .if4 .left,
-      ← (p2 .capped .ensures),
+      ← (p2 .up-to-255 .ensures),
       ← (c .before .location-kind25 .ensures),
       c .if5 .taken,
     )
@@ -123,7 +123,7 @@ returns-6 c =
       p5 .if3 .left,
       ← (p4 .location-names23 .ensures),
       p3 .if4 .left,
-      ← (p2 .capped .ensures),
+      ← (p2 .up-to-255 .ensures),
       ← (c .before .location-kind25 .ensures),
       c .if5 .left,
     )
@@ -145,8 +145,8 @@ location-refusal-spec =
     array-read-location-names23-2
     location-names23-requires
     returns-4
-    array-read-capped
-    capped-requires
+    array-read-up-to-255
+    up-to-255-requires
     array-read-location-kind25
     location-kind25-requires
     returns-5

@@ -19,14 +19,14 @@ returns c = rw (le-leb _ _ (c .before .if1 .taken), c .refuse .ensures)
 pack-machine-requires : tie.Need-pack-machine-requires
 pack-machine-requires c κs = search needs
 
-mul-e : tie.Need-mul-e
-mul-e c = search needs
+mul-d : tie.Need-mul-d
+mul-d c = search needs
 
-element-write-e : tie.Need-element-write-e
-element-write-e c = search needs
+element-write-d : tie.Need-element-write-d
+element-write-d c = search needs
 
-add-e : tie.Need-add-e
-add-e c = search needs
+add-d : tie.Need-add-d
+add-d c = search needs
 
 accept-requires : tie.Need-accept-requires
 accept-requires c κs = search needs
@@ -35,8 +35,8 @@ returns-2 : tie.Need-returns-2
 unfolding machineEntry withMachine
 returns-2 c =
     rw (
-      lt-leb _ _ (c .before .before .before .if1 .left),
-      ← (c .before .before .pack-machine .ensures),
+      lt-leb _ _ (c .before .before .if1 .left),
+      ← (c .before .pack-machine .ensures),
       c .accept .ensures,
     )
 
@@ -48,8 +48,8 @@ machine-entry-spec =
     refuse-requires
     returns
     pack-machine-requires
-    mul-e
-    element-write-e
-    add-e
+    mul-d
+    element-write-d
+    add-d
     accept-requires
     returns-2)

@@ -2,19 +2,20 @@
 -- present one on. The measure is the labels left.
 use Prim.Native.Nat.{_-_, _≤_}
 use mathlib.Core.Path.{_≡_}
+use mathlib.Core.Bool.{not}
 use native.Mathlib.Nat.{sub-zero}
 use native.Mathlib.Omega.{arith}
 use borrow.Author.Needs.{needs}
 use Rattle.terms.specs.Line.{termAt}
 use Rattle.model.specs.First.{firstFrom}
 use Rattle.model.proofs.First.{first-more, first-end}
+use Rattle.audit.specs.Models.{namesProgram}
 use Rattle.reader.specs.SecondReading.{firstBadCode}
-use Rattle.reader.specs.ELine.{codePast}
 use Rattle.reader.proofs.second.first_bad_code.Statement.{statement}
 use Rattle.reader.proofs.second.first_bad_code.Tie as tie
 
 abbrev Inv-loop : tie.InvT-loop
-Inv-loop lines count programs i₀ i = (firstBadCode lines count programs ≡ firstFrom (count - i) i (λ k. codePast (termAt lines k) programs)) × (i ≤ count)
+Inv-loop lines count programs i₀ i = (firstBadCode lines count programs ≡ firstFrom (count - i) i (λ k. not (namesProgram (termAt lines k) programs))) × (i ≤ count)
 
 abbrev μ-loop : tie.MeasureT-loop
 μ-loop lines count programs i₀ i = count - i
@@ -26,8 +27,8 @@ loop-holds c = (rw (sub-zero), search needs)
 term-at-requires : tie.Need-term-at-requires Inv-loop μ-loop
 term-at-requires c κs = search needs
 
-names-code-past-requires : tie.Need-names-code-past-requires Inv-loop μ-loop
-names-code-past-requires c κs = search needs
+names-program-requires : tie.Need-names-program-requires Inv-loop μ-loop
+names-program-requires c κs = search needs
 
 returns : tie.Need-returns Inv-loop μ-loop
 returns c = let p3 = c .before .before .before in let l = p3 .before .loop in
@@ -35,7 +36,7 @@ returns c = let p3 = c .before .before .before in let l = p3 .before .loop in
       l .inv .0,
       first-more _ (l .i) _ (p3 .loop-test .taken),
       ← (c .before .before .term-at .ensures),
-      ← (c .before .names-code-past .ensures),
+      ← (c .before .names-program .ensures),
       c .if1 .taken,
     )
 
@@ -51,7 +52,7 @@ loop-again c = let p3 = c .before .before .before in let l = p3 .before .loop in
     l .inv .0,
     first-more _ (l .i) _ (p3 .loop-test .taken),
     ← (c .before .before .term-at .ensures),
-    ← (c .before .names-code-past .ensures),
+    ← (c .before .names-program .ensures),
     c .if1 .left,
   ),
   search needs,
@@ -71,7 +72,7 @@ first-bad-code-spec =
     μ-loop
     loop-holds
     term-at-requires
-    names-code-past-requires
+    names-program-requires
     returns
     add-i
     loop-less

@@ -10,8 +10,8 @@ returns : tie.Need-returns
 unfolding termCounted withTerm
 returns c = rw (le-leb _ _ (c .if1 .taken))
 
-need-of-requires : tie.Need-need-of-requires
-need-of-requires c κs = search needs
+top-of-requires : tie.Need-top-of-requires
+top-of-requires c κs = search needs
 
 element-write-d : tie.Need-element-write-d
 element-write-d c = search needs
@@ -21,7 +21,7 @@ add-d c = search needs
 
 returns-2 : tie.Need-returns-2
 unfolding termCounted withTerm
-returns-2 c = rw (lt-leb _ _ (c .before .before .before .if1 .left), ← (c .need-of .ensures))
+returns-2 c = rw (lt-leb _ _ (c .before .before .before .if1 .left), ← (c .top-of .ensures))
 
 pub term-counted-spec : {M : Type 1} → statement M
-term-counted-spec = tie.close (tie.spec returns need-of-requires element-write-d add-d returns-2)
+term-counted-spec = tie.close (tie.spec returns top-of-requires element-write-d add-d returns-2)

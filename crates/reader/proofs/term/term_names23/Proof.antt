@@ -12,8 +12,8 @@ returns : tie.Need-returns
 unfolding termNames23
 returns c = rw (← (c .before .parts-below .ensures), not-true (c .before .parts-below .result) (c .if1 .taken))
 
-names-code-past-requires : tie.Need-names-code-past-requires
-names-code-past-requires c κs = search needs
+names-program-requires : tie.Need-names-program-requires
+names-program-requires c κs = search needs
 
 returns-2 : tie.Need-returns-2
 unfolding termNames23
@@ -21,9 +21,9 @@ returns-2 c =
     rw (
       ← (c .before .before .parts-below .ensures),
       not-false (c .before .before .parts-below .result) (c .before .if1 .left),
-      ← (c .names-code-past .ensures),
+      ← (c .names-program .ensures),
     )
 
 pub term-names23-spec : {M : Type 1} → statement M
 term-names23-spec =
-    tie.close (tie.spec parts-below-requires returns names-code-past-requires returns-2)
+    tie.close (tie.spec parts-below-requires returns names-program-requires returns-2)

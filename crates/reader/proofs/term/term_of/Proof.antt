@@ -4,11 +4,11 @@ use Rattle.reader.specs.ELine.{termOf}
 use Rattle.reader.proofs.term.term_of.Statement.{statement}
 use Rattle.reader.proofs.term.term_of.Tie as tie
 
-array-read-capped : tie.Need-array-read-capped
-array-read-capped c = search needs
+array-read-up-to-255 : tie.Need-array-read-up-to-255
+array-read-up-to-255 c = search needs
 
-capped-requires : tie.Need-capped-requires
-capped-requires c κs = search needs
+up-to-255-requires : tie.Need-up-to-255-requires
+up-to-255-requires c κs = search needs
 
 array-read-t9 : tie.Need-array-read-t9
 array-read-t9 c = search needs
@@ -18,8 +18,8 @@ array-read-t12 c = search needs
 
 returns : tie.Need-returns
 unfolding termOf
-returns c = rw (← (c .capped .ensures))
+returns c = rw (← (c .up-to-255 .ensures))
 
 pub term-of-spec : {M : Type 1} → statement M
 term-of-spec =
-    tie.close (tie.spec array-read-capped capped-requires array-read-t9 array-read-t12 returns)
+    tie.close (tie.spec array-read-up-to-255 up-to-255-requires array-read-t9 array-read-t12 returns)

@@ -5,11 +5,11 @@ use Rattle.reader.specs.VLine.{versionLine}
 use Rattle.reader.proofs.version.version_line.Statement.{statement}
 use Rattle.reader.proofs.version.version_line.Tie as tie
 
-array-read-capped : tie.Need-array-read-capped
-array-read-capped c = search needs
+array-read-up-to-255 : tie.Need-array-read-up-to-255
+array-read-up-to-255 c = search needs
 
-capped-requires : tie.Need-capped-requires
-capped-requires c κs = search needs
+up-to-255-requires : tie.Need-up-to-255-requires
+up-to-255-requires c κs = search needs
 
 version-refusal-requires : tie.Need-version-refusal-requires
 version-refusal-requires c κs = search needs
@@ -21,7 +21,7 @@ returns : tie.Need-returns
 unfolding versionLine
 returns c =
     rw (
-      ← (c .before .before .before .capped .ensures),
+      ← (c .before .before .before .up-to-255 .ensures),
       ← (c .before .before .version-refusal .ensures),
       ne-eqb _ _ (c .before .if1 .taken),
       c .refuse .ensures,
@@ -35,7 +35,7 @@ unfolding versionLine
 returns-2 c =
     let p2 = c .before .before in let p3 = p2 .before in
     rw (
-      ← (p3 .capped .ensures),
+      ← (p3 .up-to-255 .ensures),
       ← (p2 .version-refusal .ensures),
       eq-eqb _ _ (c .before .if1 .left),
       c .version-entry .ensures,
@@ -45,8 +45,8 @@ pub version-line-spec : {M : Type 1} → statement M
 version-line-spec =
     tie.close
     (tie.spec
-    array-read-capped
-    capped-requires
+    array-read-up-to-255
+    up-to-255-requires
     version-refusal-requires
     refuse-requires
     returns

@@ -3,8 +3,10 @@
 use Prim.Native.Nat.{_-_, _≤_}
 use mathlib.Core.Path.{_≡_, sym, _∙_}
 use borrow.Author.Needs.{needs}
-use Rattle.rules.specs.Effect.{filled, cleared}
-use Rattle.rules.proofs.Loops.{fill-more, fill-end, cleared-start}
+use Rattle.terms.specs.Base.{filled}
+use Rattle.terms.proofs.Laws.{fill-more, fill-end}
+use Rattle.rules.specs.Effect.{cleared}
+use Rattle.rules.proofs.Loops.{cleared-start}
 use Rattle.rules.proofs.effect.cleared.Statement.{statement}
 use Rattle.rules.proofs.effect.cleared.Tie as tie
 
@@ -20,11 +22,11 @@ place-of-requires c κs = search needs
 cast-k : tie.Need-cast-k Inv-loop μ-loop
 cast-k c = search needs
 
-last-place-requires : tie.Need-last-place-requires Inv-loop μ-loop
-last-place-requires c κs = search needs
+end-place-requires : tie.Need-end-place-requires Inv-loop μ-loop
+end-place-requires c κs = search needs
 
 loop-holds : tie.Need-loop-holds Inv-loop μ-loop
-loop-holds c = (rw (c .before .place-of .ensures, c .last-place .ensures .is) (cleared-start 0 _ _), search needs)
+loop-holds c = (rw (c .before .place-of .ensures, c .end-place .ensures .is) (cleared-start 0 _ _), search needs)
 
 mul-vars : tie.Need-mul-vars Inv-loop μ-loop
 mul-vars c = search needs
@@ -52,7 +54,7 @@ cleared-spec =
     μ-loop
     place-of-requires
     cast-k
-    last-place-requires
+    end-place-requires
     loop-holds
     mul-vars
     element-write-vars

@@ -1,7 +1,7 @@
 -- `rules::effect::with_value` meets its contract: the range test of the definition.
 use borrow.Author.Needs.{needs}
 use borrow.Author.Tests.{lt-ltb, le-ltb}
-use Rattle.rules.specs.Effect.{withValue}
+use Rattle.state.specs.Moves.{withAt}
 use Rattle.rules.proofs.effect.with_value.Statement.{statement}
 use Rattle.rules.proofs.effect.with_value.Tie as tie
 
@@ -12,11 +12,11 @@ element-write-values : tie.Need-element-write-values
 element-write-values c = search needs
 
 returns : tie.Need-returns
-unfolding withValue
+unfolding withAt
 returns c = rw (lt-ltb _ _ (c .if1 .taken))
 
 returns-2 : tie.Need-returns-2
-unfolding withValue
+unfolding withAt
 returns-2 c = rw (le-ltb _ _ (c .if1 .left))
 
 pub with-value-spec : {M : Type 1} → statement M

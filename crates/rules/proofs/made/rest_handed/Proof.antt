@@ -16,8 +16,8 @@ bound-requires c κs = search needs
 bound-requires-2 : tie.Need-bound-requires-2
 bound-requires-2 c κs = search needs
 
-one-more-requires : tie.Need-one-more-requires
-one-more-requires c κs = search needs
+moved-requires : tie.Need-moved-requires
+moved-requires c κs = search needs
 
 returns : tie.Need-returns
 unfolding restHanded
@@ -30,7 +30,7 @@ returns c =
       ← (p5 .slot-at2 .ensures),
       ← (p3 .bound .ensures),
       ← (c .before .bound2 .ensures),
-      ← (c .one-more .ensures),
+      ← (c .moved .ensures),
     )
 
 pub rest-handed-spec : {M : Type 1} → statement M
@@ -41,5 +41,5 @@ rest-handed-spec =
     slot-at-requires-2
     bound-requires
     bound-requires-2
-    one-more-requires
+    moved-requires
     returns)

@@ -1,6 +1,6 @@
 -- `rules::reset::slot_cleared` meets its contract: the one test of the definition.
 use borrow.Author.Needs.{needs}
-use Rattle.rules.specs.Restart.{slotCleared}
+use Rattle.rules.specs.Parts.{slotCleared}
 use Rattle.rules.proofs.reset.slot_cleared.Statement.{statement}
 use Rattle.rules.proofs.reset.slot_cleared.Tie as tie
 

@@ -12,23 +12,14 @@ level-of-requires c κs = search needs
 add-j : tie.Need-add-j
 add-j c = search needs
 
-mul-counts-at : tie.Need-mul-counts-at
-mul-counts-at c = search needs
-
-index-1-counts-at : tie.Need-index-1-counts-at
-index-1-counts-at c = search needs
-
-counts-at-requires : tie.Need-counts-at-requires
-counts-at-requires c κs = search needs
-
 mul-locks : tie.Need-mul-locks
 mul-locks c = search needs
 
 element-copy-out-locks : tie.Need-element-copy-out-locks
 element-copy-out-locks c = search needs
 
-mul-t25 : tie.Need-mul-t25
-mul-t25 c = search needs
+mul-t21 : tie.Need-mul-t21
+mul-t21 c = search needs
 
 element-set-from-locks : tie.Need-element-set-from-locks
 element-set-from-locks c = search needs
@@ -39,8 +30,8 @@ mul-values c = search needs
 element-copy-out-values : tie.Need-element-copy-out-values
 element-copy-out-values c = search needs
 
-mul-t25-2 : tie.Need-mul-t25-2
-mul-t25-2 c = search needs
+mul-t21-2 : tie.Need-mul-t21-2
+mul-t21-2 c = search needs
 
 element-set-from-values : tie.Need-element-set-from-values
 element-set-from-values c = search needs
@@ -51,8 +42,8 @@ mul-vars c = search needs
 element-copy-out-vars : tie.Need-element-copy-out-vars
 element-copy-out-vars c = search needs
 
-mul-t25-3 : tie.Need-mul-t25-3
-mul-t25-3 c = search needs
+mul-t21-3 : tie.Need-mul-t21-3
+mul-t21-3 c = search needs
 
 element-set-from-vars : tie.Need-element-set-from-vars
 element-set-from-vars c = search needs
@@ -75,6 +66,15 @@ mul-rest-made-3 c = search needs
 index-1-rest-made-3 : tie.Need-index-1-rest-made-3
 index-1-rest-made-3 c = search needs
 
+mul-counts-at : tie.Need-mul-counts-at
+mul-counts-at c = search needs
+
+index-1-counts-at : tie.Need-index-1-counts-at
+index-1-counts-at c = search needs
+
+counts-at-requires : tie.Need-counts-at-requires
+counts-at-requires c κs = search needs
+
 counters-of-requires : tie.Need-counters-of-requires
 counters-of-requires c κs = search needs
 
@@ -87,8 +87,8 @@ counts-of-requires c κs = search needs
 counts-row-requires : tie.Need-counts-row-requires
 counts-row-requires c κs = search needs
 
-mul-t18 : tie.Need-mul-t18
-mul-t18 c =
+mul-t17 : tie.Need-mul-t17
+mul-t17 c =
     let p13 = c .before .before .before .before .before .before .before .before .before .before .before .before .before in
     let h = p13 .level-of .ensures .small in omega (arith, h)
 
@@ -100,16 +100,16 @@ element-set-from-counts c =
 returns : tie.Need-returns
 returns c =
     let p1 = c .before in let p2 = p1 .before in let p3 = p2 .before in
-    let p11 = p3 .before .before .before .before .before .before .before .before in let p13 = p11 .before .before in let p14 = p13 .before in
-    let a = p14 .args in
+    let p4 = p3 .before in let p13 = p4 .before .before .before .before .before .before .before .before .before in
+    let a = p13 .before .args in
     rest-put
     (a .locks .now)
     (a .values .now)
     (a .vars .now)
     (a .counts .now)
     (p13 .level-of .result)
-    (p11 .counts-at .result)
-    (p11 .counts-at .ensures)
+    (p4 .counts-at .result)
+    (p4 .counts-at .ensures)
     (a .slots .now)
     (a .length)
     (a .deep)
@@ -134,20 +134,17 @@ rest-rows-spec =
     (tie.spec
     level-of-requires
     add-j
-    mul-counts-at
-    index-1-counts-at
-    counts-at-requires
     mul-locks
     element-copy-out-locks
-    mul-t25
+    mul-t21
     element-set-from-locks
     mul-values
     element-copy-out-values
-    mul-t25-2
+    mul-t21-2
     element-set-from-values
     mul-vars
     element-copy-out-vars
-    mul-t25-3
+    mul-t21-3
     element-set-from-vars
     mul-rest-made
     index-1-rest-made
@@ -155,10 +152,13 @@ rest-rows-spec =
     index-1-rest-made-2
     mul-rest-made-3
     index-1-rest-made-3
+    mul-counts-at
+    index-1-counts-at
+    counts-at-requires
     counters-of-requires
     rest-made-requires
     counts-of-requires
     counts-row-requires
-    mul-t18
+    mul-t17
     element-set-from-counts
     returns)

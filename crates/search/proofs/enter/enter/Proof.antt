@@ -13,11 +13,12 @@ use Rattle.search.proofs.enter.enter.Statement.{statement}
 use Rattle.search.proofs.enter.enter.Tie as tie
 
 abbrev Inv-loop : tie.InvT-loop
-Inv-loop t₀ records₀ p m claim machines stack₀ place₀ codes end i₀ t records stack place i =
-    (enterOn t₀ records₀ m p ≡ enterIn (end - i) m p i (climb stack place t records)) × (length records ≡ length records₀) × (end ≤ 255)
+Inv-loop t₀ records₀ p m stack₀ place₀ codes i₀ t records stack place i =
+    (enterOn t₀ records₀ m p ≡ enterIn (p .length - i) m p i (climb stack place t records))
+    × (length records ≡ length records₀) × (p .length ≤ 255)
 
 abbrev μ-loop : tie.MeasureT-loop
-μ-loop t₀ records₀ p m claim machines stack₀ place₀ codes end i₀ t records stack place i = end - i
+μ-loop t₀ records₀ p m stack₀ place₀ codes i₀ t records stack place i = p .length - i
 
 fresh-requires : tie.Need-fresh-requires Inv-loop μ-loop
 fresh-requires c κs = search needs
@@ -48,13 +49,19 @@ went-requires : tie.Need-went-requires Inv-loop μ-loop
 went-requires c κs = search needs
 
 add-stack : tie.Need-add-stack Inv-loop μ-loop
-add-stack c = search needs
+add-stack c =
+    let half = c .before .before .before .before .before .before .before .before in
+    let h = half .before .before .before .before .before .before .before .level-of .ensures .small in search needs
 
 mul-stack : tie.Need-mul-stack Inv-loop μ-loop
-mul-stack c = search needs
+mul-stack c =
+    let half = c .before .before .before .before .before .before .before .before in
+    let h = half .before .before .before .before .before .before .before .level-of .ensures .small in search needs
 
 array-set-from-stack : tie.Need-array-set-from-stack Inv-loop μ-loop
-array-set-from-stack c = search needs
+array-set-from-stack c =
+    let half = c .before .before .before .before .before .before .before .before in
+    let h = half .before .before .before .before .before .before .before .level-of .ensures .small in search needs
 
 pushed-requires : tie.Need-pushed-requires Inv-loop μ-loop
 pushed-requires c κs = search needs
@@ -62,54 +69,53 @@ pushed-requires c κs = search needs
 add-i : tie.Need-add-i Inv-loop μ-loop
 add-i c =
     let half = c .before .before .before .before .before .before .before .before in
-    let p16 = half .before .before .before .before .before .before .before .before in
-    let p17 = p16 .before in
-    let l = p17 .loop in let h = p16 .loop-test .taken in search needs
+    let p17 = half .before .before .before .before .before .before .before .before .before in
+    let l = p17 .before .before .loop in let h = p17 .if1 .taken in search needs
 
 same-length : tie.Need-same-length Inv-loop μ-loop
 same-length c =
     let half = c .before .before .before .before .before .before .before .before .before in
     let p19 = half .before .before .before .before .before .before .before .before .before .before in
-    let l = p19 .loop in search needs
+    let l = p19 .before .before .loop in search needs
 
 returns : tie.Need-returns Inv-loop μ-loop
 returns c =
-    let p2 = c .before .before in let p6 = p2 .before .before .before .before in let p8 = p6 .before .before in
-    let p16 = p8 .before .before .before .before .before .before .before .before in let p17 = p16 .before in
-    let p18 = p17 .before in let p19 = p18 .before in let p25 = p19 .before .before .before .before .before .before in
-    let l = p19 .loop in let a = p25 .args in
+    let p2 = c .before .before in let p6 = p2 .before .before .before .before in let p9 = p6 .before .before .before in
+    let p17 = p9 .before .before .before .before .before .before .before .before in let p18 = p17 .before in
+    let p19 = p18 .before in let p21 = p19 .before .before in
+    let l = p21 .loop in let a = p21 .before .before .before .before .before .args in
     rw (
       l .inv .0,
-      enter-more (a .t3) (a .p) (l .i) (climb (l .stack) (l .place) (l .t) (l .records)) (a .p .length) (p18 .loop-test .taken),
-      ← (p17 .level-of .ensures .is),
-      ← (p16 .code-in .ensures),
-      ← (p8 .try-step .ensures),
+      enter-more (a .t3) (a .p) (l .i) (climb (l .stack) (l .place) (l .t) (l .records)) (a .p .length) (p19 .if1 .taken),
+      ← (p18 .level-of .ensures .is),
+      ← (p17 .code-in .ensures),
+      ← (p9 .try-step .ensures),
       ← (p6 .went .ensures),
       ← (p2 .pushed .ensures),
-      not-true (p6 .went .result .good) (c .if1 .taken),
+      not-true (p6 .went .result .good) (c .if2 .taken),
     )
 
 loop-less : tie.Need-loop-less Inv-loop μ-loop
 loop-less c =
     let half = c .before .before .before .before .before .before .before .before .before in
-    let p18 = half .before .before .before .before .before .before .before .before .before in
-    omega (arith, p18 .loop-test .taken)
+    let p19 = half .before .before .before .before .before .before .before .before .before .before in
+    omega (arith, p19 .if1 .taken)
 
 loop-again : tie.Need-loop-again Inv-loop μ-loop
 loop-again c =
-    let p2 = c .before .before in let p6 = p2 .before .before .before .before in let p8 = p6 .before .before in
-    let p16 = p8 .before .before .before .before .before .before .before .before in let p17 = p16 .before in
-    let p18 = p17 .before in let p19 = p18 .before in let p25 = p19 .before .before .before .before .before .before in
-    let l = p19 .loop in let a = p25 .args in (
+    let p2 = c .before .before in let p6 = p2 .before .before .before .before in let p9 = p6 .before .before .before in
+    let p17 = p9 .before .before .before .before .before .before .before .before in let p18 = p17 .before in
+    let p19 = p18 .before in let p21 = p19 .before .before in
+    let l = p21 .loop in let a = p21 .before .before .before .before .before .args in (
       rw (
         l .inv .0,
-        enter-more (a .t3) (a .p) (l .i) (climb (l .stack) (l .place) (l .t) (l .records)) (a .p .length) (p18 .loop-test .taken),
-        ← (p17 .level-of .ensures .is),
-        ← (p16 .code-in .ensures),
-        ← (p8 .try-step .ensures),
+        enter-more (a .t3) (a .p) (l .i) (climb (l .stack) (l .place) (l .t) (l .records)) (a .p .length) (p19 .if1 .taken),
+        ← (p18 .level-of .ensures .is),
+        ← (p17 .code-in .ensures),
+        ← (p9 .try-step .ensures),
         ← (p6 .went .ensures),
         ← (p2 .pushed .ensures),
-        not-false (p6 .went .result .good) (c .if1 .left),
+        not-false (p6 .went .result .good) (c .if2 .left),
       ),
       search needs,
       l .inv .2,
@@ -123,11 +129,11 @@ same-length-2 c = search needs
 
 returns-2 : tie.Need-returns-2 Inv-loop μ-loop
 returns-2 c =
-    let p2 = c .before .before in let p8 = p2 .before .before .before .before .before .before in
-    let l = p2 .loop in let a = p8 .args in
+    let p3 = c .before .before .before in
+    let l = p3 .loop in let a = p3 .before .before .before .before .before .args in
     rw (
       l .inv .0,
-      enter-end (a .t3) (a .p) (l .i) (climb (l .stack) (l .place) (l .t) (l .records)) (a .p .length) (c .before .loop-test .left),
+      enter-end (a .t3) (a .p) (l .i) (climb (l .stack) (l .place) (l .t) (l .records)) (a .p .length) (c .before .if1 .left),
       ← (c .at-code .ensures),
     )
 

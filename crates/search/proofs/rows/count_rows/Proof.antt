@@ -1,25 +1,24 @@
 -- `search::rows::count_rows` meets its contract: the loop keeps the rows that are put already and those still to come. The
 -- measure is the rows left.
 use Prim.Native.Nat.{_-_}
-use mathlib.Core.Path.{_≡_, refl}
-use lib.ListN.{length, length-set}
+use mathlib.Core.Path.{refl}
 use borrow.Author.Needs.{needs}
 use Rattle.state.specs.declared.control.Control.{Control}
-use Rattle.search.specs.Rows.{countsOn, countRows, countsAt}
+use Rattle.search.specs.Rows.{countsRow, countRows, countsAt}
 use Rattle.search.specs.Enter.{noControl}
-use Rattle.search.proofs.Stacked.{length-stack, Spread, spread-next, spread-all, counts-long, counts-put}
+use Rattle.search.proofs.Stacked.{length-stack, Spread, spread-next, spread-all}
 use Rattle.search.proofs.rows.count_rows.Statement.{statement}
 use Rattle.search.proofs.rows.count_rows.Tie as tie
 
 abbrev Inv-loop : tie.InvT-loop
 Inv-loop t stack rows₀ i₀ rows i =
-    (length rows ≡ 25) × Spread (λ (s : Control). countsAt t s) stack (countsOn rows) i
+    Spread (λ (s : Control). countsRow (countsAt t s)) stack rows i
 
 abbrev μ-loop : tie.MeasureT-loop
 μ-loop t stack rows₀ i₀ rows i = 25 - i
 
 loop-holds : tie.Need-loop-holds Inv-loop μ-loop
-loop-holds c = (search needs, (refl, rw counts-long (search needs), search (needs, length-stack), search needs))
+loop-holds c = (refl, search needs, search (needs, length-stack), search needs)
 
 mul-s : tie.Need-mul-s Inv-loop μ-loop
 mul-s c = search needs
@@ -49,18 +48,16 @@ loop-again : tie.Need-loop-again Inv-loop μ-loop
 loop-again c =
     let p5 = c .before .before .before .before .before in
     let l = p5 .loop in
-    let a = p5 .before .args in (
-      simp length-set (search needs),
-      rw (counts-put _ _ (c .counts-row .ensures) (l .i) (l .rows), c .before .counts-in .ensures)
-          (spread-next (λ (s : Control). countsAt (a .t .now) s) (a .t2) noControl (countsOn (l .rows)) (l .i) (l .inv .1) (search needs)),
-    )
+    let a = p5 .before .args in
+    rw (c .counts-row .ensures, c .before .counts-in .ensures)
+    (spread-next (λ (s : Control). countsRow (countsAt (a .t .now) s)) (a .t2) noControl (l .rows) (l .i) (l .inv) (search needs))
 
 returns : tie.Need-returns Inv-loop μ-loop
 unfolding countRows
 returns c =
     let l = c .before .loop in
     let a = c .before .before .args in
-    spread-all (λ (s : Control). countsAt (a .t .now) s) (a .t2) (countsOn (l .rows)) (l .i) (l .inv .1) (search needs)
+    spread-all (λ (s : Control). countsRow (countsAt (a .t .now) s)) (a .t2) (l .rows) (l .i) (l .inv) (search needs)
 
 pub count-rows-spec : {M : Type 1} → statement M
 count-rows-spec =

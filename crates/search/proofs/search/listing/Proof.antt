@@ -87,14 +87,14 @@ returns-4 c =
       ← (c .refused-listing4 .ensures),
     )
 
-listed-in-requires : tie.Need-listed-in-requires
-listed-in-requires c κs = search needs
+outline-of-requires : tie.Need-outline-of-requires
+outline-of-requires c κs = search needs
 
 walk-requires : tie.Need-walk-requires
 walk-requires c κs = search needs
 
-spent-requires : tie.Need-spent-requires
-spent-requires c κs = search needs
+less-requires : tie.Need-less-requires
+less-requires c κs = search needs
 
 same-length : tie.Need-same-length
 same-length c = search needs
@@ -113,9 +113,9 @@ returns-5 c =
       ← (p20 .in-bounds .ensures),
       not-false (p20 .in-bounds .result) (p19 .if3 .left),
       ← (p14 .enter .ensures),
-      ← (p8 .listed-in .ensures),
+      ← (p8 .outline-of .ensures),
       ← (p5 .walk .ensures),
-      ← (c .spent .ensures),
+      ← (c .less .ensures),
       not-false (p14 .enter .result .good) (p10 .if4 .left),
     )
 
@@ -136,8 +136,8 @@ listing-spec =
     enter-requires
     refused-listing-requires-4
     returns-4
-    listed-in-requires
+    outline-of-requires
     walk-requires
-    spent-requires
+    less-requires
     same-length
     returns-5)

@@ -4,13 +4,12 @@ use mathlib.Core.Path.{_≡_, refl, sym, ap, subst, _∙_}
 use Prim.Native.Nat.{_<_}
 use lib.ListN.{length}
 use borrow.Author.Needs.{needs}
-use Rattle.search.specs.Rows.{countsOn}
 use Rattle.search.specs.Turn.{Lent}
 use Rattle.search.specs.Ahead.{Rows, rows, others, Stood}
 use Rattle.search.specs.Search.{Scene, scene, walkOn, deepsOf, walkFrom}
 use Rattle.search.proofs.Laws.{turned-less, walk-more, walk-end}
 use Rattle.search.proofs.Falls.{turnsLeft}
-use Rattle.search.proofs.Stacked.{Long, stackOf, stacked, depths, stacked-rows, depths-rows, counts-long}
+use Rattle.search.proofs.Stacked.{Long, stackOf, stacked, depths, countsOn, stacked-rows, depths-rows}
 use Rattle.search.proofs.InPlace.{sceneOf, turned-rows, long-rows}
 use Rattle.search.proofs.search.walk.Statement.{statement}
 use Rattle.search.proofs.search.walk.Tie as tie
@@ -19,7 +18,7 @@ abbrev Inv-loop : tie.InvT-loop
 Inv-loop t₀ records₀ room₀ budget k m slots₀ locks₀ values₀ vars₀ counts₀ w₀ t records room slots locks values vars counts w =
     (walkOn m k (scene w₀ (stacked slots₀ locks₀ values₀ vars₀ (countsOn counts₀)) (depths (countsOn counts₀)) t₀ records₀ room₀)
     ≡ walkOn m k (scene w (stacked slots locks values vars (countsOn counts)) (depths (countsOn counts)) t records room))
-    × Long (rows slots (others locks values vars (countsOn counts)))
+    × Long (rows slots (others locks values vars counts))
     × (length records ≡ length records₀) × (length room ≡ length room₀)
 
 abbrev μ-loop : tie.MeasureT-loop
@@ -49,7 +48,7 @@ first-walk-requires c κs = search needs
 loop-holds : tie.Need-loop-holds Inv-loop μ-loop
 loop-holds c = (
   refl,
-  record { slots = search needs; locks = search needs; values = search needs; vars = search needs; counts = rw counts-long (search needs) },
+  record { slots = search needs; locks = search needs; values = search needs; vars = search needs; counts = search needs },
   refl,
   refl,
 )
@@ -64,8 +63,8 @@ loop-less c =
     let p19 = p18 .before in
     let p32 = p19 .before .before .before .before .before .before .before .before .before .before .before .before .before in
     let l = p19 .loop in let a = p32 .args in
-    let x : Rows = rows (l .slots) (others (l .locks) (l .values) (l .vars) (countsOn (l .counts))) in
-    let here : Scene = scene (l .w) (stackOf x) (depths (x .others .counts)) (l .t) (l .records) (l .room) in
+    let x : Rows = rows (l .slots) (others (l .locks) (l .values) (l .vars) (l .counts)) in
+    let here : Scene = scene (l .w) (stackOf x) (depths (countsOn (x .others .counts))) (l .t) (l .records) (l .room) in
     let there = ap sceneOf (p4 .advance .ensures) ∙ turned-rows (a .t4) (a .k) (l .t) (l .records) (l .room) x (l .w) (l .inv .1) in
     subst
     (λ (y : Scene). turnsLeft (y .walk) < turnsLeft (l .w))
@@ -79,8 +78,8 @@ loop-again c =
     let p19 = p18 .before in
     let p32 = p19 .before .before .before .before .before .before .before .before .before .before .before .before .before in
     let l = p19 .loop in let a = p32 .args in
-    let x : Rows = rows (l .slots) (others (l .locks) (l .values) (l .vars) (countsOn (l .counts))) in
-    let here : Scene = scene (l .w) (stackOf x) (depths (x .others .counts)) (l .t) (l .records) (l .room) in
+    let x : Rows = rows (l .slots) (others (l .locks) (l .values) (l .vars) (l .counts)) in
+    let here : Scene = scene (l .w) (stackOf x) (depths (countsOn (x .others .counts))) (l .t) (l .records) (l .room) in
     let there = ap sceneOf (p4 .advance .ensures) ∙ turned-rows (a .t4) (a .k) (l .t) (l .records) (l .room) x (l .w) (l .inv .1) in (
       l .inv .0 ∙ walk-more (a .t4) (a .k) here (p18 .loop-test .taken) ∙ ap (λ (y : Scene). walkOn (a .t4) (a .k) y) (sym there),
       subst
@@ -109,8 +108,8 @@ returns c =
     (stacked-rows (a .t .now) (a .e .stack)) in
     let dp : depths (countsOn (p5 .count-rows .result)) ≡ deepsOf (a .t .now) (a .e .stack) =
     rw (p5 .count-rows .ensures) (depths-rows (a .t .now) (a .e .stack)) in
-    let x : Rows = rows (l .slots) (others (l .locks) (l .values) (l .vars) (countsOn (l .counts))) in
-    let here : Scene = scene (l .w) (stackOf x) (depths (x .others .counts)) (l .t) (l .records) (l .room) in
+    let x : Rows = rows (l .slots) (others (l .locks) (l .values) (l .vars) (l .counts)) in
+    let here : Scene = scene (l .w) (stackOf x) (depths (countsOn (x .others .counts))) (l .t) (l .records) (l .room) in
     rw (
       ← (p3 .room-for .ensures),
       ← (p2 .first-walk .ensures),

@@ -7,8 +7,8 @@ use Rattle.search.proofs.turn.found.Tie as tie
 write-schedule-requires : tie.Need-write-schedule-requires
 write-schedule-requires c κs = search needs
 
-one-more-requires : tie.Need-one-more-requires
-one-more-requires c κs = search needs
+one-try-more-requires : tie.Need-one-try-more-requires
+one-try-more-requires c κs = search needs
 
 cast-stands-at : tie.Need-cast-stands-at
 cast-stands-at c = search needs
@@ -29,7 +29,7 @@ returns c =
     rw (
       c .stands-at .ensures,
       ← (p7 .write-schedule .ensures),
-      ← (p4 .one-more .ensures),
+      ← (p4 .one-try-more .ensures),
       ← (c .before .room-for .ensures),
     )
 
@@ -38,7 +38,7 @@ found-spec =
     tie.close
     (tie.spec
     write-schedule-requires
-    one-more-requires
+    one-try-more-requires
     cast-stands-at
     room-for-requires
     stands-at-requires

@@ -53,8 +53,8 @@ returns-4 c =
       eq-eqb _ _ (c .if4 .taken),
     )
 
-takes-location-requires : tie.Need-takes-location-requires
-takes-location-requires c κs = search needs
+names-location-requires : tie.Need-names-location-requires
+names-location-requires c κs = search needs
 
 returns-5 : tie.Need-returns-5
 unfolding refusalOf
@@ -64,12 +64,12 @@ returns-5 c =
     rw (
       ← (p10 .slot-at .ensures),
       ← (p6 .next-action .ensures),
-      ← (c .before .takes-location .ensures),
+      ← (c .before .names-location .ensures),
       not-false (p10 .slot-at .result .live) (p8 .if1 .left),
       lt-leb _ _ (p7 .if2 .left),
       ne-eqb _ _ (p4 .if3 .left),
       ne-eqb _ _ (p2 .if4 .left),
-      not-true (c .before .takes-location .result) (c .if5 .taken),
+      not-true (c .before .names-location .result) (c .if5 .taken),
     )
 
 elsewhere-requires : tie.Need-elsewhere-requires
@@ -83,13 +83,13 @@ returns-6 c =
     rw (
       ← (p12 .slot-at .ensures),
       ← (p8 .next-action .ensures),
-      ← (p3 .takes-location .ensures),
+      ← (p3 .names-location .ensures),
       ← (c .before .elsewhere .ensures),
       not-false (p12 .slot-at .result .live) (p10 .if1 .left),
       lt-leb _ _ (p9 .if2 .left),
       ne-eqb _ _ (p6 .if3 .left),
       ne-eqb _ _ (p4 .if4 .left),
-      not-false (p3 .takes-location .result) (p2 .if5 .left),
+      not-false (p3 .names-location .result) (p2 .if5 .left),
       c .if6 .taken,
     )
 
@@ -105,14 +105,14 @@ returns-7 c =
     rw (
       ← (p14 .slot-at .ensures),
       ← (p10 .next-action .ensures),
-      ← (p5 .takes-location .ensures),
+      ← (p5 .names-location .ensures),
       ← (p3 .elsewhere .ensures),
       ← (c .before .locked-out .ensures),
       not-false (p14 .slot-at .result .live) (p12 .if1 .left),
       lt-leb _ _ (p11 .if2 .left),
       ne-eqb _ _ (p8 .if3 .left),
       ne-eqb _ _ (p6 .if4 .left),
-      not-false (p5 .takes-location .result) (p4 .if5 .left),
+      not-false (p5 .names-location .result) (p4 .if5 .left),
       p2 .if6 .left,
       c .if7 .taken,
     )
@@ -126,14 +126,14 @@ returns-8 c =
     rw (
       ← (p14 .slot-at .ensures),
       ← (p10 .next-action .ensures),
-      ← (p5 .takes-location .ensures),
+      ← (p5 .names-location .ensures),
       ← (p3 .elsewhere .ensures),
       ← (c .before .locked-out .ensures),
       not-false (p14 .slot-at .result .live) (p12 .if1 .left),
       lt-leb _ _ (p11 .if2 .left),
       ne-eqb _ _ (p8 .if3 .left),
       ne-eqb _ _ (p6 .if4 .left),
-      not-false (p5 .takes-location .result) (p4 .if5 .left),
+      not-false (p5 .names-location .result) (p4 .if5 .left),
       p2 .if6 .left,
       c .if7 .left,
     )
@@ -148,7 +148,7 @@ early-advance-spec =
     next-action-requires
     returns-3
     returns-4
-    takes-location-requires
+    names-location-requires
     returns-5
     elsewhere-requires
     returns-6

@@ -1,7 +1,7 @@
 -- `state::moves::with_lock` meets its contract: the range test of the definition.
 use borrow.Author.Needs.{needs}
 use borrow.Author.Tests.{le-ltb, lt-ltb}
-use Rattle.state.specs.Moves.{withLock}
+use Rattle.state.specs.Moves.{withAt}
 use Rattle.state.proofs.moves.with_lock.Statement.{statement}
 use Rattle.state.proofs.moves.with_lock.Tie as tie
 
@@ -12,11 +12,11 @@ element-write-locks : tie.Need-element-write-locks
 element-write-locks c = search needs
 
 returns : tie.Need-returns
-unfolding withLock
+unfolding withAt
 returns c = rw (lt-ltb _ _ (c .if1 .taken))
 
 returns-2 : tie.Need-returns-2
-unfolding withLock
+unfolding withAt
 returns-2 c = rw (le-ltb _ _ (c .if1 .left))
 
 pub with-lock-spec : {M : Type 1} → statement M

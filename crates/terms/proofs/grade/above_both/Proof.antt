@@ -10,8 +10,8 @@ depth-in-requires c κs = search needs
 depth-in-requires-2 : tie.Need-depth-in-requires-2
 depth-in-requires-2 c κs = search needs
 
-deeper-requires : tie.Need-deeper-requires
-deeper-requires c κs = search needs
+larger-requires : tie.Need-larger-requires
+larger-requires c κs = search needs
 
 cast-t6 : tie.Need-cast-t6
 cast-t6 c = search needs
@@ -35,7 +35,7 @@ returns c =
     rw (
       ← (p5 .depth-in .ensures),
       ← (p4 .depth-in2 .ensures),
-      ← (p3 .deeper .ensures),
+      ← (p3 .larger .ensures),
       ← (p2 .ground-in .ensures),
       ← (c .before .ground-in2 .ensures),
       ← (c .both .ensures),
@@ -47,7 +47,7 @@ above-both-spec =
     (tie.spec
     depth-in-requires
     depth-in-requires-2
-    deeper-requires
+    larger-requires
     cast-t6
     add-t7
     ground-in-requires

@@ -5,13 +5,14 @@ use mathlib.Core.Path.{_≡_}
 use native.Mathlib.Nat.{sub-zero}
 use borrow.Author.Needs.{needs}
 use borrow.Author.Tests.{not-true, not-false}
-use Rattle.terms.specs.Sound.{linesFrom}
-use Rattle.terms.proofs.Laws.{lines-more, lines-end}
+use Rattle.terms.specs.Each.{allFrom, each}
+use Rattle.terms.specs.Sound.{lineSound}
+use Rattle.terms.proofs.Each.{all-more, all-end}
 use Rattle.terms.proofs.sound.lines_sound.Statement.{statement}
 use Rattle.terms.proofs.sound.lines_sound.Tie as tie
 
 abbrev Inv-loop : tie.InvT-loop
-Inv-loop t count i₀ i = linesFrom count 0 t ≡ linesFrom (count - i) i t
+Inv-loop t count i₀ i = each count (lineSound t) ≡ allFrom (count - i) i (lineSound t)
 
 abbrev μ-loop : tie.MeasureT-loop
 μ-loop t count i₀ i = count - i
@@ -25,7 +26,7 @@ line-sound-requires c κs = search needs
 returns : tie.Need-returns Inv-loop μ-loop
 returns c =
     let l = c .before .before .before .loop in
-    rw (l .inv, lines-more _ (l .i) _ (c .before .before .loop-test .taken), ← (c .before .line-sound .ensures), not-true (c .before .line-sound .result) (c .if1 .taken))
+    rw (l .inv, all-more _ (l .i) _ (c .before .before .loop-test .taken), ← (c .before .line-sound .ensures), not-true (c .before .line-sound .result) (c .if1 .taken))
 
 add-i : tie.Need-add-i Inv-loop μ-loop
 add-i c = search needs
@@ -36,12 +37,12 @@ loop-less c = search needs
 loop-again : tie.Need-loop-again Inv-loop μ-loop
 loop-again c =
     let l = c .before .before .before .loop in
-    rw (l .inv, lines-more _ (l .i) _ (c .before .before .loop-test .taken), ← (c .before .line-sound .ensures), not-false (c .before .line-sound .result) (c .if1 .left))
+    rw (l .inv, all-more _ (l .i) _ (c .before .before .loop-test .taken), ← (c .before .line-sound .ensures), not-false (c .before .line-sound .result) (c .if1 .left))
 
 returns-2 : tie.Need-returns-2 Inv-loop μ-loop
 returns-2 c =
     let l = c .before .loop in
-    rw (l .inv, lines-end _ (l .i) _ (c .loop-test .left))
+    rw (l .inv, all-end _ (l .i) _ (c .loop-test .left))
 
 pub lines-sound-spec : {M : Type 1} → statement M
 lines-sound-spec =

@@ -10,8 +10,7 @@ use Rattle.terms.proofs.subst.+fits_within.Tie.{close}
 use Rattle.terms.proofs.subst.fits_within.Reads as fits-within
 use Rattle.terms.proofs.subst.fits_within.Kinds as fits-within-kinds
 use Rattle.terms.proofs.subst.+fits_within.Lts-fits_within as fits-within-lts
-use Rattle.terms.proofs.line.depth_in.Reads as depth-in-reads
-use Rattle.terms.proofs.line.line_at.Reads as line-at-reads
+use Rattle.terms.proofs.line.depth_at.Reads as depth-at-reads
 use Rattle.terms.proofs.subst.plan_at.Reads as plan-at-reads
 
 abbrev μ-fits-within : Measures 2 fits-within-kinds.ps ℕ
@@ -26,7 +25,7 @@ fits-within-below t =
     and 2 fits-within-kinds.ps (falls 2 fits-within-kinds.ps _<_ μ-fits-within t) fits-within.Pre
 
 abbrev Q : ℕ → fits-within-lts.Claims
-Q t = (plan-at-reads.Asked, plan-at-reads.Learnt, line-at-reads.Asked, line-at-reads.Learnt, depth-in-reads.Asked, depth-in-reads.Learnt, fits-within-below t, fits-within.Post)
+Q t = (plan-at-reads.Asked, plan-at-reads.Learnt, depth-at-reads.Asked, depth-at-reads.Learnt, fits-within-below t, fits-within.Post)
 
 fits-within-returns : (t : ℕ) → fits-within-lts.Need-returns (Q t) (fits-within-at t) fits-within.Post
 fits-within-returns t c = rw (fits-zero _ _ _ _ _ (c .if1 .taken))
@@ -37,11 +36,8 @@ fits-within-plan-at-requires t c κs = search needs
 fits-within-enum-known-p : (t : ℕ) → fits-within-lts.Need-enum-known-p (Q t) (fits-within-at t) fits-within.Post
 fits-within-enum-known-p t c = search needs
 
-fits-within-line-at-requires : (t : ℕ) → fits-within-lts.Need-line-at-requires (Q t) (fits-within-at t) fits-within.Post
-fits-within-line-at-requires t c κs = search needs
-
-fits-within-depth-in-requires : (t : ℕ) → fits-within-lts.Need-depth-in-requires (Q t) (fits-within-at t) fits-within.Post
-fits-within-depth-in-requires t c κs = search needs
+fits-within-depth-at-requires : (t : ℕ) → fits-within-lts.Need-depth-at-requires (Q t) (fits-within-at t) fits-within.Post
+fits-within-depth-at-requires t c κs = search needs
 
 fits-within-enum-known-p-2 : (t : ℕ) → fits-within-lts.Need-enum-known-p-2 (Q t) (fits-within-at t) fits-within.Post
 fits-within-enum-known-p-2 t c = search needs
@@ -78,14 +74,8 @@ fits-within-fits-within-requires-4 t c κs = search needs
 
 fits-within-returns-2 : (t : ℕ) → fits-within-lts.Need-returns-2 (Q t) (fits-within-at t) fits-within.Post
 fits-within-returns-2 t c =
-    let p3 = c .before .before .before in let p5 = p3 .before .before in let p6 = p5 .before in
-    rw (
-      fits-step _ _ _ _ _ (p6 .if1 .left),
-      ← (p5 .plan-at .ensures),
-      p3 .p .given .1,
-      ← (c .before .line-at .ensures),
-      ← (c .depth-in .ensures),
-    )
+    let p2 = c .before .before in let p4 = p2 .before .before in let p5 = p4 .before in
+    rw (fits-step _ _ _ _ _ (p5 .if1 .left), ← (p4 .plan-at .ensures), p2 .p .given .1, ← (c .depth-at .ensures))
 
 fits-within-returns-3 : (t : ℕ) → fits-within-lts.Need-returns-3 (Q t) (fits-within-at t) fits-within.Post
 fits-within-returns-3 t c =
@@ -132,8 +122,7 @@ pub +fits-within-spec : {M : Type 1} → statement M
     (fits-within-returns t)
     (fits-within-plan-at-requires t)
     (fits-within-enum-known-p t)
-    (fits-within-line-at-requires t)
-    (fits-within-depth-in-requires t)
+    (fits-within-depth-at-requires t)
     (fits-within-enum-known-p-2 t)
     (fits-within-sub-fits-within t)
     (fits-within-fits-within-requires t)

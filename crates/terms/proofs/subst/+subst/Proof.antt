@@ -1,11 +1,9 @@
--- `terms::subst::subst` meets its contract: one step down is `subst-step`, none left is `subst-zero`; an answer without a
--- label is handed on. The measure is the steps left.
 use borrow.Author.Needs.{needs}
 use Prim.Native.Nat.{ℕ, _<_}
 use borrow.Fn.Kinds.{In}
 use borrow.Fn.PlainCycle.{Measures, is, falls, and}
 use Rattle.terms.proofs.Laws.{subst-zero, subst-step}
-use Rattle.terms.proofs.Answers.{answer-with, first-without, second-without, both-without, then-without}
+use Rattle.terms.proofs.Answers.{answer-with, then-without}
 use Rattle.terms.proofs.subst.subst.Reads as subst
 use Rattle.terms.proofs.subst.subst.Kinds as subst-kinds
 use Rattle.terms.proofs.subst.+subst.Lts-subst as subst-lts
@@ -31,28 +29,7 @@ abbrev subst-below : ℕ → In 2 subst-kinds.ps
 subst-below t = and 2 subst-kinds.ps (falls 2 subst-kinds.ps _<_ μ-subst t) subst.Pre
 
 abbrev Q : ℕ → subst-lts.Claims
-Q t = (
-  got-deep-reads.Asked,
-  got-deep-reads.Learnt,
-  plan-at-reads.Asked,
-  plan-at-reads.Learnt,
-  got-label-reads.Asked,
-  got-label-reads.Learnt,
-  subst-below t,
-  subst.Post,
-  has-label-reads.Asked,
-  has-label-reads.Learnt,
-  label-in-reads.Asked,
-  label-in-reads.Learnt,
-  count-in-reads.Asked,
-  count-in-reads.Learnt,
-  with-first-reads.Asked,
-  with-first-reads.Learnt,
-  with-second-reads.Asked,
-  with-second-reads.Learnt,
-  with-both-reads.Asked,
-  with-both-reads.Learnt,
-)
+Q t = (got-deep-reads.Asked, got-deep-reads.Learnt, plan-at-reads.Asked, plan-at-reads.Learnt, got-label-reads.Asked, got-label-reads.Learnt, subst-below t, subst.Post, with-first-reads.Asked, with-first-reads.Learnt, with-second-reads.Asked, with-second-reads.Learnt, has-label-reads.Asked, has-label-reads.Learnt, count-in-reads.Asked, count-in-reads.Learnt, label-in-reads.Asked, label-in-reads.Learnt, with-both-reads.Asked, with-both-reads.Learnt)
 
 subst-got-deep-requires : (t : ℕ) → subst-lts.Need-got-deep-requires (Q t) (subst-at t) subst.Post
 subst-got-deep-requires t c κs = search needs
@@ -82,15 +59,6 @@ subst-sub-subst t c = search needs
 subst-subst-requires : (t : ℕ) → subst-lts.Need-subst-requires (Q t) (subst-at t) subst.Post
 subst-subst-requires t c κs = search needs
 
-subst-has-label-requires : (t : ℕ) → subst-lts.Need-has-label-requires (Q t) (subst-at t) subst.Post
-subst-has-label-requires t c κs = search needs
-
-subst-label-in-requires : (t : ℕ) → subst-lts.Need-label-in-requires (Q t) (subst-at t) subst.Post
-subst-label-in-requires t c κs = search needs
-
-subst-count-in-requires : (t : ℕ) → subst-lts.Need-count-in-requires (Q t) (subst-at t) subst.Post
-subst-count-in-requires t c κs = search needs
-
 subst-with-first-requires : (t : ℕ) → subst-lts.Need-with-first-requires (Q t) (subst-at t) subst.Post
 subst-with-first-requires t c κs = search needs
 
@@ -102,15 +70,6 @@ subst-sub-subst-2 t c = search needs
 
 subst-subst-requires-2 : (t : ℕ) → subst-lts.Need-subst-requires-2 (Q t) (subst-at t) subst.Post
 subst-subst-requires-2 t c κs = search needs
-
-subst-has-label-requires-2 : (t : ℕ) → subst-lts.Need-has-label-requires-2 (Q t) (subst-at t) subst.Post
-subst-has-label-requires-2 t c κs = search needs
-
-subst-label-in-requires-2 : (t : ℕ) → subst-lts.Need-label-in-requires-2 (Q t) (subst-at t) subst.Post
-subst-label-in-requires-2 t c κs = search needs
-
-subst-count-in-requires-2 : (t : ℕ) → subst-lts.Need-count-in-requires-2 (Q t) (subst-at t) subst.Post
-subst-count-in-requires-2 t c κs = search needs
 
 subst-with-second-requires : (t : ℕ) → subst-lts.Need-with-second-requires (Q t) (subst-at t) subst.Post
 subst-with-second-requires t c κs = search needs
@@ -124,11 +83,11 @@ subst-sub-subst-3 t c = search needs
 subst-subst-requires-3 : (t : ℕ) → subst-lts.Need-subst-requires-3 (Q t) (subst-at t) subst.Post
 subst-subst-requires-3 t c κs = search needs
 
-subst-has-label-requires-3 : (t : ℕ) → subst-lts.Need-has-label-requires-3 (Q t) (subst-at t) subst.Post
-subst-has-label-requires-3 t c κs = search needs
+subst-has-label-requires : (t : ℕ) → subst-lts.Need-has-label-requires (Q t) (subst-at t) subst.Post
+subst-has-label-requires t c κs = search needs
 
-subst-count-in-requires-3 : (t : ℕ) → subst-lts.Need-count-in-requires-3 (Q t) (subst-at t) subst.Post
-subst-count-in-requires-3 t c κs = search needs
+subst-count-in-requires : (t : ℕ) → subst-lts.Need-count-in-requires (Q t) (subst-at t) subst.Post
+subst-count-in-requires t c κs = search needs
 
 subst-sub-subst-4 : (t : ℕ) → subst-lts.Need-sub-subst-4 (Q t) (subst-at t) subst.Post
 subst-sub-subst-4 t c = search needs
@@ -136,17 +95,8 @@ subst-sub-subst-4 t c = search needs
 subst-subst-requires-4 : (t : ℕ) → subst-lts.Need-subst-requires-4 (Q t) (subst-at t) subst.Post
 subst-subst-requires-4 t c κs = search needs
 
-subst-has-label-requires-4 : (t : ℕ) → subst-lts.Need-has-label-requires-4 (Q t) (subst-at t) subst.Post
-subst-has-label-requires-4 t c κs = search needs
-
-subst-label-in-requires-3 : (t : ℕ) → subst-lts.Need-label-in-requires-3 (Q t) (subst-at t) subst.Post
-subst-label-in-requires-3 t c κs = search needs
-
-subst-label-in-requires-4 : (t : ℕ) → subst-lts.Need-label-in-requires-4 (Q t) (subst-at t) subst.Post
-subst-label-in-requires-4 t c κs = search needs
-
-subst-count-in-requires-4 : (t : ℕ) → subst-lts.Need-count-in-requires-4 (Q t) (subst-at t) subst.Post
-subst-count-in-requires-4 t c κs = search needs
+subst-label-in-requires : (t : ℕ) → subst-lts.Need-label-in-requires (Q t) (subst-at t) subst.Post
+subst-label-in-requires t c κs = search needs
 
 subst-with-both-requires : (t : ℕ) → subst-lts.Need-with-both-requires (Q t) (subst-at t) subst.Post
 subst-with-both-requires t c κs = search needs
@@ -163,16 +113,13 @@ subst-returns-2 t c =
 
 subst-returns-3 : (t : ℕ) → subst-lts.Need-returns-3 (Q t) (subst-at t) subst.Post
 subst-returns-3 t c =
-    let p2 = c .before .before in let p4 = p2 .before .before in let p5 = p4 .before in let p6 = p5 .before in
-    let p9 = p6 .before .before .before in let p11 = p9 .before .before in let p13 = p11 .before .before in
+    let p2 = c .before .before in let p5 = p2 .before .before .before in let p7 = p5 .before .before in
+    let p9 = p7 .before .before in
     rw (
-      subst-step _ _ _ _ _ _ (p13 .if1 .left),
-      ← (p11 .plan-at .ensures),
-      p9 .p2 .given .1,
-      ← (p6 .subst .ensures),
-      answer-with _ _ (p5 .has-label .ensures) (p4 .if2 .taken),
-      ← (p2 .label-in .ensures),
-      ← (c .before .count-in .ensures),
+      subst-step _ _ _ _ _ _ (p9 .if1 .left),
+      ← (p7 .plan-at .ensures),
+      p5 .p2 .given .1,
+      ← (p2 .subst .ensures),
       ← (c .with-first .ensures),
     )
 
@@ -183,85 +130,36 @@ subst-returns-4 t c =
     rw (
       subst-step _ _ _ _ _ _ (p9 .if1 .left),
       ← (p7 .plan-at .ensures),
-      p5 .p2 .given .1,
-      ← (p2 .subst .ensures),
-      first-without _ _ (c .before .has-label .ensures) _ _ (c .if2 .left),
+      p5 .p3 .given .1,
+      ← (p2 .subst2 .ensures),
+      ← (c .with-second .ensures),
     )
 
 subst-returns-5 : (t : ℕ) → subst-lts.Need-returns-5 (Q t) (subst-at t) subst.Post
 subst-returns-5 t c =
-    let p2 = c .before .before in let p4 = p2 .before .before in let p5 = p4 .before in let p6 = p5 .before in
-    let p9 = p6 .before .before .before in let p11 = p9 .before .before in let p13 = p11 .before .before in
+    let p3 = c .before .before .before in let p4 = p3 .before in let p6 = p4 .before .before in let p7 = p6 .before in
+    let p8 = p7 .before in let p11 = p8 .before .before .before in let p13 = p11 .before .before in
     rw (
-      subst-step _ _ _ _ _ _ (p13 .if1 .left),
-      ← (p11 .plan-at .ensures),
-      p9 .p3 .given .1,
-      ← (p6 .subst2 .ensures),
-      answer-with _ _ (p5 .has-label2 .ensures) (p4 .if3 .taken),
-      ← (p2 .label-in2 .ensures),
-      ← (c .before .count-in2 .ensures),
-      ← (c .with-second .ensures),
+      subst-step _ _ _ _ _ _ (p13 .before .before .if1 .left),
+      ← (p13 .plan-at .ensures),
+      p11 .p4 .given .1,
+      ← (p8 .subst3 .ensures),
+      answer-with _ _ (p7 .has-label .ensures) (p6 .if2 .taken),
+      ← (p4 .count-in .ensures),
+      ← (p3 .subst4 .ensures),
+      ← (c .before .label-in .ensures),
+      ← (c .with-both .ensures),
     )
 
 subst-returns-6 : (t : ℕ) → subst-lts.Need-returns-6 (Q t) (subst-at t) subst.Post
 subst-returns-6 t c =
     let p2 = c .before .before in let p5 = p2 .before .before .before in let p7 = p5 .before .before in
-    let p9 = p7 .before .before in
     rw (
-      subst-step _ _ _ _ _ _ (p9 .if1 .left),
-      ← (p7 .plan-at .ensures),
-      p5 .p3 .given .1,
-      ← (p2 .subst2 .ensures),
-      second-without _ _ (c .before .has-label2 .ensures) _ _ (c .if3 .left),
-    )
-
-subst-returns-7 : (t : ℕ) → subst-lts.Need-returns-7 (Q t) (subst-at t) subst.Post
-subst-returns-7 t c =
-    let p2 = c .before .before in let p3 = p2 .before in let p5 = p3 .before .before in let p6 = p5 .before in
-    let p7 = p6 .before in let p8 = p7 .before in let p10 = p8 .before .before in let p11 = p10 .before in
-    let p12 = p11 .before in let p15 = p12 .before .before .before in let p17 = p15 .before .before in
-    let p19 = p17 .before .before in
-    rw (
-      subst-step _ _ _ _ _ _ (p19 .if1 .left),
-      ← (p17 .plan-at .ensures),
-      p15 .p4 .given .1,
-      ← (p12 .subst3 .ensures),
-      answer-with _ _ (p11 .has-label3 .ensures) (p10 .if4 .taken),
-      ← (p8 .count-in3 .ensures),
-      ← (p7 .subst4 .ensures),
-      answer-with _ _ (p6 .has-label4 .ensures) (p5 .if5 .taken),
-      ← (p3 .label-in3 .ensures),
-      ← (p2 .label-in4 .ensures),
-      ← (c .before .count-in4 .ensures),
-      ← (c .with-both .ensures),
-    )
-
-subst-returns-8 : (t : ℕ) → subst-lts.Need-returns-8 (Q t) (subst-at t) subst.Post
-subst-returns-8 t c =
-    let p2 = c .before .before in let p3 = p2 .before in let p5 = p3 .before .before in let p6 = p5 .before in
-    let p7 = p6 .before in let p10 = p7 .before .before .before in let p12 = p10 .before .before in
-    let p14 = p12 .before .before in
-    rw (
-      subst-step _ _ _ _ _ _ (p14 .if1 .left),
-      ← (p12 .plan-at .ensures),
-      p10 .p4 .given .1,
-      ← (p7 .subst3 .ensures),
-      answer-with _ _ (p6 .has-label3 .ensures) (p5 .if4 .taken),
-      ← (p3 .count-in3 .ensures),
-      ← (p2 .subst4 .ensures),
-      both-without _ _ (c .before .has-label4 .ensures) _ _ _ (c .if5 .left),
-    )
-
-subst-returns-9 : (t : ℕ) → subst-lts.Need-returns-9 (Q t) (subst-at t) subst.Post
-subst-returns-9 t c =
-    let p2 = c .before .before in let p5 = p2 .before .before .before in let p7 = p5 .before .before in
-    let p9 = p7 .before .before in
-    rw (
-      subst-step _ _ _ _ _ _ (p9 .if1 .left),
+      subst-step _ _ _ _ _ _ (p7 .before .before .if1 .left),
       ← (p7 .plan-at .ensures),
       p5 .p4 .given .1,
       ← (p2 .subst3 .ensures),
-      then-without _ _ (c .before .has-label3 .ensures) _ _ _ _ (c .if4 .left),
+      then-without _ _ (c .before .has-label .ensures) _ _ _ _ (c .if2 .left),
     )
 
 pub +subst-spec : {M : Type 1} → statement M
@@ -276,34 +174,22 @@ pub +subst-spec : {M : Type 1} → statement M
     (subst-enum-known-p-2 t)
     (subst-sub-subst t)
     (subst-subst-requires t)
-    (subst-has-label-requires t)
-    (subst-label-in-requires t)
-    (subst-count-in-requires t)
     (subst-with-first-requires t)
     (subst-enum-known-p-3 t)
     (subst-sub-subst-2 t)
     (subst-subst-requires-2 t)
-    (subst-has-label-requires-2 t)
-    (subst-label-in-requires-2 t)
-    (subst-count-in-requires-2 t)
     (subst-with-second-requires t)
     (subst-enum-known-p-4 t)
     (subst-sub-subst-3 t)
     (subst-subst-requires-3 t)
-    (subst-has-label-requires-3 t)
-    (subst-count-in-requires-3 t)
+    (subst-has-label-requires t)
+    (subst-count-in-requires t)
     (subst-sub-subst-4 t)
     (subst-subst-requires-4 t)
-    (subst-has-label-requires-4 t)
-    (subst-label-in-requires-3 t)
-    (subst-label-in-requires-4 t)
-    (subst-count-in-requires-4 t)
+    (subst-label-in-requires t)
     (subst-with-both-requires t)
     (subst-returns-2 t)
     (subst-returns-3 t)
     (subst-returns-4 t)
     (subst-returns-5 t)
     (subst-returns-6 t)
-    (subst-returns-7 t)
-    (subst-returns-8 t)
-    (subst-returns-9 t)

@@ -1,5 +1,5 @@
 -- `terms::subst::not_taken` meets its contract: one test, as in the definition.
-use Rattle.terms.specs.Entry.{notTaken}
+use Rattle.terms.specs.Subst.{notTaken}
 use borrow.Author.Needs.{needs}
 use Rattle.terms.proofs.subst.not_taken.Statement.{statement}
 use Rattle.terms.proofs.subst.not_taken.Tie as tie

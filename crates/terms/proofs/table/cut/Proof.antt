@@ -1,15 +1,16 @@
--- `terms::table::cut` meets its contract: the loop keeps that wiping all gives what wiping from line i on gives. The
+-- `terms::table::cut` meets its contract: the loop keeps that cutting gives what filling with zero from line i on gives. The
 -- measure is the lines left.
 use Prim.Native.Nat.{_-_, _≤_}
 use mathlib.Core.Path.{_≡_, _∙_}
 use borrow.Author.Needs.{needs}
-use Rattle.terms.specs.Table.{wipe, cutTo}
-use Rattle.terms.proofs.Laws.{wipe-more, wipe-end}
+use Rattle.terms.specs.Base.{filled}
+use Rattle.terms.specs.Table.{cutTo}
+use Rattle.terms.proofs.Laws.{fill-more, fill-end}
 use Rattle.terms.proofs.table.cut.Statement.{statement}
 use Rattle.terms.proofs.table.cut.Tie as tie
 
 abbrev Inv-loop : tie.InvT-loop
-Inv-loop t₀ earlier count end i₀ t i = (cutTo t₀ earlier count ≡ wipe (end - i) i t) × (end ≤ 512)
+Inv-loop t₀ earlier count end i₀ t i = (cutTo t₀ earlier count ≡ filled 0 (end - i) i t) × (end ≤ 512)
 
 abbrev μ-loop : tie.MeasureT-loop
 μ-loop t₀ earlier count end i₀ t i = end - i
@@ -39,12 +40,12 @@ loop-less c = search needs
 loop-again : tie.Need-loop-again Inv-loop μ-loop
 loop-again c =
     let l = c .before .loop in
-    (l .inv .0 ∙ wipe-more _ (l .i) (l .t) (c .loop-test .taken), search needs)
+    (l .inv .0 ∙ fill-more 0 _ (l .i) (l .t) (c .loop-test .taken), search needs)
 
 returns : tie.Need-returns Inv-loop μ-loop
 returns c =
     let l = c .before .loop in
-    rw (l .inv .0, wipe-end _ (l .i) (l .t) (c .loop-test .left))
+    rw (l .inv .0, fill-end 0 _ (l .i) (l .t) (c .loop-test .left))
 
 pub cut-spec : {M : Type 1} → statement M
 cut-spec =
