@@ -3,13 +3,13 @@
 use Prim.Native.Nat.{ℕ, _+_, _*_, _/_, _%_, _<_}
 use mathlib.Core.Bool.{Bool, true, false}
 use mathlib.Core.List.{List}
-use mathlib.Core.Path.{_≡_, refl, ap, _∙_}
+use mathlib.Core.Path.{_≡_, refl, sym, ap, _∙_}
 use lib.ListN.{set}
 use lib.Dec.{ltb, eqb}
 use native.Mathlib.Omega.{arith}
 use borrow.Author.Tests.{lt-ltb, le-ltb, eq-eqb, ne-eqb}
 use Rattle.terms.specs.Base.{pick, Held, held}
-use Rattle.terms.specs.Subbed.{Label, Deep, Full, Subbed, subbed, labelIn, countIn, hasLabel, isDeep, subbedIn}
+use Rattle.terms.specs.Subbed.{Got, Label, Deep, Full, Subbed, subbed, labelIn, countIn, hasLabel, isDeep, subbedIn}
 use Rattle.terms.specs.Term.{afterParts}
 use Rattle.terms.specs.Line.{packed}
 use Rattle.terms.specs.Grade.{gradeOf}
@@ -47,6 +47,11 @@ answer-full c k =
     let q : n / 65536 % 65536 ≡ c = omega arith in
     rw (le-ltb n 4294967296 (omega arith), le-ltb n 8589934592 (omega arith), q)
 
+-- what is done with either of two
+pick-each : {A B : Type 0} (f : A → B) (d : Bool) (x y : A) → f (pick d x y) ≡ pick d (f x) (f y)
+pick-each f true x y = refl
+pick-each f false x y = refl
+
 -- b is what the code found of the answer n
 module _ (n : ℕ) (b : Bool) (e : b ≡ hasLabel n) where
   pub answer-with : b ≡ true → subbedIn n ≡ subbed (Label (labelIn n)) (countIn n)
@@ -57,53 +62,38 @@ module _ (n : ℕ) (b : Bool) (e : b ≡ hasLabel n) where
   unfolding subbedIn
   without h = rw (← e, h)
 
+  -- whatever is done with an answer that has no label is done with one of the two
+  without-by : {A : Type 0} (f : Got → ℕ → A) → b ≡ false → f (subbedIn n .got) (subbedIn n .count) ≡ pick (isDeep n) (f Deep (countIn n)) (f Full (countIn n))
+  without-by f h = rw (without h) (pick-each (λ g. f g (countIn n)) (isDeep n) Deep Full)
+
+  -- it is handed on
+  handed : (l : List ℕ) → b ≡ false → held (subbedIn n) l ≡ pick (isDeep n) (held (subbed Deep (countIn n)) l) (held (subbed Full (countIn n)) l)
+  handed l h = without-by (λ g c. held (subbed g c) l) h
+
   pub first-without : (l : List ℕ) (i : ℕ) → b ≡ false → withFirst l i (subbedIn n) ≡ held (subbedIn n) l
   unfolding withFirst
-  first-without l i h = rw (without h) (go (isDeep n))
-    where
-      go : (d : Bool) → firstBy (pick d Deep Full) (countIn n) i l ≡ held (subbed (pick d Deep Full) (countIn n)) l
-      go true = refl
-      go false = refl
+  first-without l i h = without-by (λ g c. firstBy g c i l) h ∙ sym (handed l h)
 
   pub second-without : (l : List ℕ) (i : ℕ) → b ≡ false → withSecond l i (subbedIn n) ≡ held (subbedIn n) l
   unfolding withSecond
-  second-without l i h = rw (without h) (go (isDeep n))
-    where
-      go : (d : Bool) → secondBy (pick d Deep Full) (countIn n) i l ≡ held (subbed (pick d Deep Full) (countIn n)) l
-      go true = refl
-      go false = refl
+  second-without l i h = without-by (λ g c. secondBy g c i l) h ∙ sym (handed l h)
 
   pub both-without : (l : List ℕ) (i a : ℕ) → b ≡ false → withBoth l i a (subbedIn n) ≡ held (subbedIn n) l
   unfolding withBoth
-  both-without l i a h = rw (without h) (go (isDeep n))
-    where
-      go : (d : Bool) → bothBy (pick d Deep Full) (countIn n) i a l ≡ held (subbed (pick d Deep Full) (countIn n)) l
-      go true = refl
-      go false = refl
+  both-without l i a h = without-by (λ g c. bothBy g c i a l) h ∙ sym (handed l h)
 
   pub then-without : (l : List ℕ) (i j : ℕ) (down : List ℕ → ℕ → ℕ → Held Subbed) → b ≡ false
       → thenSecond (subbedIn n .got) (subbedIn n .count) i j down l ≡ held (subbedIn n) l
-  then-without l i j down h = rw (without h) (go (isDeep n))
-    where
-      go : (d : Bool) → thenSecond (pick d Deep Full) (countIn n) i j down l ≡ held (subbed (pick d Deep Full) (countIn n)) l
-      go true = refl
-      go false = refl
+  then-without l i j down h = without-by (λ g c. thenSecond g c i j down l) h ∙ sym (handed l h)
 
   pub operand-without : (i : ℕ) → b ≡ false → secondOperand i (subbedIn n) ≡ notTaken n
   unfolding secondOperand notTaken
-  operand-without i h = rw (without h) (go (isDeep n))
-    where
-      go : (d : Bool) → takenBy (pick d Deep Full) (countIn n) i ≡ operands (pick d T.Deep T.Full) (countIn n)
-      go true = refl
-      go false = refl
+  operand-without i h = without-by (λ g c. takenBy g c i) h ∙ sym (pick-each (λ t. operands t (countIn n)) (isDeep n) T.Deep T.Full)
 
   pub operands-without : (l vs : List ℕ) (o y : ℕ) → b ≡ false → afterFirst (subbedIn n .got) (subbedIn n .count) l vs o y ≡ held (notTaken n) l
   unfolding notTaken
-  operands-without l vs o y h = rw (without h) (go (isDeep n))
-    where
-      go : (d : Bool) → afterFirst (pick d Deep Full) (countIn n) l vs o y ≡ held (operands (pick d T.Deep T.Full) (countIn n)) l
-      go true = refl
-      go false = refl
+  operands-without l vs o y h =
+      without-by (λ g c. afterFirst g c l vs o y) h ∙ sym (pick-each (λ t. held (operands t (countIn n)) l) (isDeep n) T.Deep T.Full)
 
 pub enter-as : (l : List ℕ) (c : ℕ) (x : Term) → enteredIn l c x ≡ enterFrom (afterParts x) (gradeOf l x) l c x
 unfolding enteredIn addTo enterFrom
