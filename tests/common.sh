@@ -17,6 +17,10 @@ same() {
         diff "$2" "$3" | head -n 5 | cut -c 1-160
     fi
 }
+# need COMMAND: Debian's package of that name, where the command is missing
+need() {
+    command -v "$1" >/dev/null 2>&1 || { apt-get update && apt-get install -y "$1"; } >"$work/apt" 2>&1
+}
 verdict() {
     echo "$passed passed, $failed failed"
     [ "$failed" = 0 ]

@@ -4,7 +4,7 @@
 . "$(dirname "$0")/common.sh"
 first=${1:-$(date +%s)} many=${2:-250}
 reference=$root/tests/reference/target/release/reference
-command -v cargo >/dev/null 2>&1 || { apt-get update && apt-get install -y cargo; } >"$work/apt" 2>&1
+need cargo
 if ! (cd "$root/tests/reference" && cargo build --release --offline) >"$work/cargo" 2>&1; then
     cat "$work/cargo"
     miss "the reference was not built"
