@@ -4,6 +4,8 @@ root=$(cd "$(dirname "$0")/.." && pwd -P) || exit 1
 work=$(mktemp -d) || exit 1
 trap 'rm -rf "$work"' EXIT
 passed=0 failed=0
+# The requests of document 02 that have landed, as 1,2,3: the reference goes by these, and so does the generator.
+landed=''
 
 pass() { passed=$((passed + 1)); }
 miss() {
@@ -17,6 +19,9 @@ same() {
         diff "$2" "$3" | head -n 5 | cut -c 1-160
     fi
 }
+# The sorts of inputs in tests/vectors: the program's name, behind bad- where most are damaged.
+kinds=$(ls "$root/tests/vectors")
+[ -n "$kinds" ] || miss "tests/vectors has no inputs"
 # need COMMAND: Debian's package of that name, where the command is missing
 need() {
     command -v "$1" >/dev/null 2>&1 || { apt-get update && apt-get install -y "$1"; } >"$work/apt" 2>&1

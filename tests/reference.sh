@@ -4,6 +4,9 @@
 . "$(dirname "$0")/common.sh"
 first=${1:-$(date +%s)} many=${2:-250}
 reference=$root/tests/reference/target/release/reference
+# refer WORD..: the reference with the requests that have landed
+refer() { "$reference" "$@" --with "$landed"; }
+
 need cargo
 if ! (cd "$root/tests/reference" && cargo build --release --offline) >"$work/cargo" 2>&1; then
     cat "$work/cargo"
@@ -11,20 +14,24 @@ if ! (cd "$root/tests/reference" && cargo build --release --offline) >"$work/car
     verdict
     exit 1
 fi
-for kind in list bad-list run bad-run; do
+for kind in $kinds; do
     for input in "$root/tests/vectors/$kind"/*.in; do
-        "$reference" "${kind#bad-}" <"$input" >"$work/got"
+        refer "${kind#bad-}" <"$input" >"$work/got"
         same "reference on $kind/$(basename "$input")" "${input%.in}.out" "$work/got"
     done
 done
-echo "fresh inputs: seeds $first to $((first + many - 1)), for list and for run"
-for kind in list run; do
+programs=$(printf '%s\n' $kinds | sed 's/^bad-//' | sort -u)
+echo "fresh inputs: seeds $first to $((first + many - 1)), for" $programs
+for kind in $programs; do
     seed=$first
     while [ "$seed" -lt $((first + many)) ]; do
-        "$reference" generate "$kind" "$seed" >"$work/in"
-        "$reference" "$kind" <"$work/in" >"$work/wanted"
-        "$root/bench" "$kind" "$work/in" >"$work/got"
-        same "$kind, seed $seed ('tests/reference.sh $seed 1' shows it again)" "$work/wanted" "$work/got"
+        name="$kind, seed $seed ('tests/reference.sh $seed 1' shows it again)"
+        if refer generate "$kind" "$seed" >"$work/in" && refer "$kind" <"$work/in" >"$work/wanted"; then
+            "$root/bench" "$kind" "$work/in" >"$work/got"
+            same "$name" "$work/wanted" "$work/got"
+        else
+            miss "$name: the reference failed"
+        fi
         seed=$((seed + 1))
     done
 done

@@ -1,7 +1,7 @@
 #!/bin/sh
 # Every input of tests/vectors gives its output, and so does every case of tests/cases.tsv (name, output, input as printf %b reads it, reason).
 . "$(dirname "$0")/common.sh"
-for kind in list bad-list run bad-run; do
+for kind in $kinds; do
     for input in "$root/tests/vectors/$kind"/*.in; do
         "$root/bench" "${kind#bad-}" "$input" >"$work/got"
         same "$kind/$(basename "$input")" "${input%.in}.out" "$work/got"

@@ -7,6 +7,7 @@ use crate::machine::Event;
 use crate::model::Model;
 use crate::plan::Mode;
 use crate::report;
+use crate::requests::Requests;
 use crate::run::Run;
 use crate::search::{Tried, Walk};
 use std::collections::{BTreeMap, BTreeSet};
@@ -73,15 +74,15 @@ impl Counts {
     }
 }
 
-pub fn count(seeds: u64, out: &mut impl Write) -> Result<()> {
+pub fn count(seeds: u64, requests: Requests, out: &mut impl Write) -> Result<()> {
     for (mode, word) in [(Mode::List, "list"), (Mode::Run, "run")] {
         let mut counts = Counts::default();
         for seed in 0..seeds {
-            let (input, damaged) = generate::made(mode, seed);
+            let (input, damaged) = generate::made(mode, seed, requests);
             counts.add("inputs damaged", u64::from(damaged));
             let read = match mode {
-                Mode::List => count_list(&mut counts, &input),
-                Mode::Run => count_run(&mut counts, &input),
+                Mode::List => count_list(&mut counts, &input, requests),
+                Mode::Run => count_run(&mut counts, &input, requests),
             };
             if let Err(refusal) = read {
                 counts.refusal(refusal);
@@ -94,8 +95,12 @@ pub fn count(seeds: u64, out: &mut impl Write) -> Result<()> {
     Ok(())
 }
 
-fn count_list(counts: &mut Counts, input: &[u8]) -> std::result::Result<(), Refusal> {
-    let (model, order) = report::read_list(input)?;
+fn count_list(
+    counts: &mut Counts,
+    input: &[u8],
+    requests: Requests,
+) -> std::result::Result<(), Refusal> {
+    let (model, order) = report::read_list(input, requests)?;
     counts.model(&model);
     counts.add(format!("bound {:>2}", order.bound), 1);
     let mut walk = Walk::new(&model, order.bound);
@@ -128,8 +133,12 @@ fn count_try(counts: &mut Counts, model: &Model, tried: Tried) {
     }
 }
 
-fn count_run(counts: &mut Counts, input: &[u8]) -> std::result::Result<(), Refusal> {
-    let (model, codes) = report::read_run(input)?;
+fn count_run(
+    counts: &mut Counts,
+    input: &[u8],
+    requests: Requests,
+) -> std::result::Result<(), Refusal> {
+    let (model, codes) = report::read_run(input, requests)?;
     counts.model(&model);
     let mut run = Run::new(&model);
     for code in codes {

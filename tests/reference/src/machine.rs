@@ -24,7 +24,23 @@ pub struct Thread {
 #[derive(Clone, Copy)]
 pub struct Cell {
     pub value: Label,
-    pub holder: Option<u32>,
+    pub lock: Option<Lock>,
+}
+
+#[derive(Clone, Copy)]
+pub struct Lock {
+    pub holder: u32,
+    /// Whether it bars reading too.
+    pub strong: bool,
+}
+
+impl Lock {
+    fn write_only(holder: u32) -> Lock {
+        Lock {
+            holder,
+            strong: false,
+        }
+    }
 }
 
 #[derive(Clone)]
@@ -52,6 +68,8 @@ pub struct Event {
     pub kind: Kind,
     pub serial: u32,
     pub ended: Vec<u16>,
+    /// How many terms entered the table.
+    pub made: usize,
 }
 
 impl Event {
@@ -61,8 +79,8 @@ impl Event {
             Kind::Plain { op } => op,
             Kind::Jump { .. } => JUMP,
             Kind::Launch { .. } => LATE_LAUNCH,
-            Kind::Reset { .. } => 21,
-            Kind::HandOver { .. } => 22,
+            Kind::Reset { .. } => RESET,
+            Kind::HandOver { .. } => HAND_OVER,
         }
     }
 }
@@ -79,6 +97,12 @@ pub fn code_after(code: u16) -> u16 {
 }
 
 pub fn step(model: &Model, config: &Config, code: u16) -> Stepped {
+    let (next, mut event) = moved(model, config, code)?;
+    event.made = next.table.len() - config.table.len();
+    Ok((next, event))
+}
+
+fn moved(model: &Model, config: &Config, code: u16) -> Stepped {
     match code {
         0..=11 => advance(model, config, code as usize),
         16..=159 => hand_over(
@@ -114,7 +138,7 @@ impl Config {
     pub fn fresh(model: &Model) -> Config {
         let cell = |location: &Location| Cell {
             value: location.value,
-            holder: None,
+            lock: None,
         };
         let mut config = Config {
             table: model.table.clone(),
@@ -209,12 +233,12 @@ fn may_touch(model: &Model, config: &Config, thread: &Thread, action: &Action) -
     if model.locations[loc].machine != thread.machine {
         return Err(6);
     }
-    let holder = config.cells[loc].holder;
-    let own = holder == Some(thread.serial);
+    let lock = config.cells[loc].lock;
+    let others = lock.filter(|lock| lock.holder != thread.serial);
     let barred = match action.op {
-        READ => false,
-        UNLOCK => !own,
-        _ => holder.is_some() && !own,
+        READ => others.is_some_and(|lock| lock.strong),
+        UNLOCK => lock.is_none() || others.is_some(),
+        _ => others.is_some(),
     };
     if barred {
         return Err(7);
@@ -227,8 +251,14 @@ fn change_cell(config: &mut Config, action: &Action, serial: u32, x: Label, resu
     match action.op {
         WRITE => config.cells[loc].value = x,
         EXTEND => config.cells[loc].value = result,
-        LOCK => config.cells[loc].holder = Some(serial),
-        UNLOCK => config.cells[loc].holder = None,
+        LOCK => config.cells[loc].lock = Some(Lock::write_only(serial)),
+        STRONG_LOCK => {
+            config.cells[loc].lock = Some(Lock {
+                holder: serial,
+                strong: true,
+            })
+        }
+        UNLOCK => config.cells[loc].lock = None,
         NEW => config.next_nonce += 1,
         _ => {}
     }
@@ -253,6 +283,7 @@ fn move_on(
                 kind: Kind::Jump { program: target },
                 serial,
                 ended: Vec::new(),
+                made: 0,
             },
         );
     }
@@ -264,6 +295,7 @@ fn move_on(
             kind: Kind::Plain { op: action.op },
             serial,
             ended,
+            made: 0,
         },
     )
 }
@@ -279,7 +311,7 @@ fn late_launch(model: &Model, config: &Config, slot: usize) -> (Config, Event) {
         if location.machine == machine && location.kind == DYNAMIC {
             *cell = Cell {
                 value: DINIT,
-                holder: Some(new),
+                lock: Some(Lock::write_only(new)),
             };
         }
     }
@@ -292,6 +324,7 @@ fn late_launch(model: &Model, config: &Config, slot: usize) -> (Config, Event) {
             },
             serial,
             ended: Vec::new(),
+            made: 0,
         },
     )
 }
@@ -321,6 +354,7 @@ fn hand_over(model: &Model, config: &Config, from: usize, to: usize) -> Stepped 
             kind,
             serial: sender.serial,
             ended: ends.into_iter().flatten().collect(),
+            made: 0,
         },
     ))
 }
@@ -342,7 +376,7 @@ fn reset(model: &Model, config: &Config, machine: u16) -> Stepped {
         model,
         &mut next,
         machine,
-        listed.protected.then_some(serial),
+        listed.protected.then(|| Lock::write_only(serial)),
     );
     let free = next
         .slots
@@ -360,20 +394,22 @@ fn reset(model: &Model, config: &Config, machine: u16) -> Stepped {
             kind,
             serial,
             ended: Vec::new(),
+            made: 0,
         },
     ))
 }
 
-/// Frees every lock of the machine, but gives its static registers to the guard, if any.
-fn reset_cells(model: &Model, config: &mut Config, machine: u16, guard: Option<u32>) {
+/// Frees every lock of the machine, but puts the guard, if any, on its static registers.
+fn reset_cells(model: &Model, config: &mut Config, machine: u16, guard: Option<Lock>) {
     for (cell, location) in config.cells.iter_mut().zip(&model.locations) {
         if location.machine != machine {
             continue;
         }
-        cell.holder = if location.kind == STATIC { guard } else { None };
+        cell.lock = guard.filter(|_| location.kind == STATIC);
         match location.kind {
             RAM => cell.value = NUMBER,
-            STATIC | DYNAMIC => cell.value = SINIT,
+            STATIC => cell.value = SINIT,
+            DYNAMIC => cell.value = model.requests.powered_up(),
             _ => {}
         }
     }

@@ -15,6 +15,7 @@ mod plan;
 mod random;
 mod reader;
 mod report;
+mod requests;
 mod results;
 mod run;
 mod search;
@@ -24,24 +25,47 @@ mod sketch;
 mod term;
 
 use plan::Mode;
+use requests::Requests;
 use std::io::{stdin, stdout, BufWriter, Read, Result, Write};
+use std::process::exit;
 
 const USAGE: &str =
-    "use: reference list | run | generate list SEED | generate run SEED | count SEEDS";
+    "use: reference list | run | generate list SEED | generate run SEED | count SEEDS,
+with --with 1,2,3 where these requests of document 02 are in";
 
 fn main() -> Result<()> {
-    let words: Vec<String> = std::env::args().skip(1).collect();
+    let mut words: Vec<String> = std::env::args().skip(1).collect();
+    let requests = take_requests(&mut words).unwrap_or_else(|wrong| wrong_use(&wrong));
     let words: Vec<&str> = words.iter().map(String::as_str).collect();
     let mut out = BufWriter::new(stdout().lock());
     match words[..] {
-        ["list"] => report::list(&standard_input()?, &mut out)?,
-        ["run"] => report::run(&standard_input()?, &mut out)?,
-        ["generate", "list", seed] => out.write_all(&generate::input(Mode::List, number(seed)))?,
-        ["generate", "run", seed] => out.write_all(&generate::input(Mode::Run, number(seed)))?,
-        ["count", seeds] => count::count(number(seeds), &mut out)?,
-        _ => eprintln!("{USAGE}"),
+        ["list"] => report::list(&standard_input()?, requests, &mut out)?,
+        ["run"] => report::run(&standard_input()?, requests, &mut out)?,
+        ["generate", word, seed] => {
+            let mode = Mode::of(word).unwrap_or_else(|| wrong_use(USAGE));
+            out.write_all(&generate::input(mode, number(seed), requests))?
+        }
+        ["count", seeds] => count::count(number(seeds), requests, &mut out)?,
+        _ => wrong_use(USAGE),
     }
     out.flush()
+}
+
+/// Takes --with and its list off the words.
+fn take_requests(words: &mut Vec<String>) -> std::result::Result<Requests, String> {
+    let Some(place) = words.iter().position(|word| word == "--with") else {
+        return Ok(Requests::default());
+    };
+    if place + 1 == words.len() {
+        return Err("--with wants the numbers of requests, as --with 1,2,3".to_string());
+    }
+    let list = words.drain(place..=place + 1).last().unwrap_or_default();
+    Requests::of(&list)
+}
+
+fn wrong_use(words: &str) -> ! {
+    eprintln!("{words}");
+    exit(2)
 }
 
 fn standard_input() -> Result<Vec<u8>> {
@@ -51,5 +75,5 @@ fn standard_input() -> Result<Vec<u8>> {
 }
 
 fn number(word: &str) -> u64 {
-    word.parse().unwrap_or(0)
+    word.parse().unwrap_or_else(|_| wrong_use(USAGE))
 }

@@ -1,6 +1,7 @@
 // The model: what a file lists, with the limit of each list and what each op uses.
 // Why: the reader fills it, the machine runs it, the generator invents it; all share one form.
 
+use crate::requests::Requests;
 use crate::term::{Label, Table};
 
 pub const READ: u16 = 0;
@@ -24,6 +25,10 @@ pub const MATCH: u16 = 17;
 pub const NEW: u16 = 18;
 pub const JUMP: u16 = 19;
 pub const LATE_LAUNCH: u16 = 20;
+/// A run's words for a reset and a hand-over; no action has them.
+pub const RESET: u16 = 21;
+pub const HAND_OVER: u16 = 22;
+pub const STRONG_LOCK: u16 = 23;
 
 pub const RAM: u16 = 0;
 pub const DISK: u16 = 1;
@@ -39,10 +44,13 @@ pub struct Action {
 }
 
 impl Action {
-    pub const OPS: u16 = 21;
+    /// Whether a file may list its op.
+    pub fn known(&self, requests: Requests) -> bool {
+        self.op <= LATE_LAUNCH || (requests.strong && self.op == STRONG_LOCK)
+    }
 
     pub fn uses_location(&self) -> bool {
-        self.op <= UNLOCK
+        self.op <= UNLOCK || self.op == STRONG_LOCK
     }
 
     pub fn uses_loc(&self) -> bool {
@@ -103,6 +111,8 @@ pub struct Claim {
 
 #[derive(Clone)]
 pub struct Model {
+    /// The requests by which it is read and run.
+    pub requests: Requests,
     pub table: Table,
     pub programs: Vec<Vec<Action>>,
     pub machines: Vec<Machine>,
@@ -119,9 +129,10 @@ impl Model {
     pub const KINDS_OF_LOCATION: u16 = 4;
     pub const THREADS: usize = 8;
 
-    pub fn empty() -> Model {
+    pub fn empty(requests: Requests) -> Model {
         Model {
-            table: Table::fixed(),
+            requests,
+            table: Table::fixed(requests),
             programs: Vec::new(),
             machines: Vec::new(),
             locations: Vec::new(),

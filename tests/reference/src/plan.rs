@@ -4,6 +4,7 @@
 use crate::actions::Close;
 use crate::model::*;
 use crate::random::Random;
+use crate::requests::Requests;
 use crate::sketch::{Sketch, Style};
 use crate::term::{Table, SINIT};
 
@@ -12,6 +13,16 @@ use crate::term::{Table, SINIT};
 pub enum Mode {
     List,
     Run,
+}
+
+impl Mode {
+    pub fn of(word: &str) -> Option<Mode> {
+        match word {
+            "list" => Some(Mode::List),
+            "run" => Some(Mode::Run),
+            _ => None,
+        }
+    }
 }
 
 const STYLES: [(Style, usize); 10] = [
@@ -31,8 +42,8 @@ pub fn style(random: &mut Random) -> Style {
     STYLES[random.weighted(&STYLES.map(|(_, weight)| weight))].0
 }
 
-pub fn model(random: &mut Random, style: Style, mode: Mode) -> Model {
-    let mut sketch = sketch(random, style);
+pub fn model(random: &mut Random, style: Style, mode: Mode, requests: Requests) -> Model {
+    let mut sketch = sketch(random, style, requests);
     sketch.locations();
     sketch.write_programs(mode);
     sketch.list_machines();
@@ -46,7 +57,7 @@ pub fn model(random: &mut Random, style: Style, mode: Mode) -> Model {
     sketch.model
 }
 
-fn sketch(random: &mut Random, style: Style) -> Sketch<'_> {
+fn sketch(random: &mut Random, style: Style, requests: Requests) -> Sketch<'_> {
     let machines = match style {
         Style::Largest => Model::MACHINES,
         Style::Locks | Style::Memory => 1 + random.weighted(&[8, 2]),
@@ -61,7 +72,7 @@ fn sketch(random: &mut Random, style: Style) -> Sketch<'_> {
     Sketch {
         random,
         style,
-        model: Model::empty(),
+        model: Model::empty(requests),
         programs,
         machines,
         exits: Vec::new(),

@@ -3,13 +3,14 @@
 
 use crate::lines::{record, Line, Refusal, LARGEST_FIELD};
 use crate::model::{Action, Claim, Listed, Location, Machine, Model, DYNAMIC, EVAL, STATIC};
+use crate::requests::Requests;
 use crate::second;
 use crate::term::{self, Label, Table, Term};
 
 /// The model of these lines, or the first bad line with its lowest number.
-pub fn read(lines: &[Line<'_>]) -> Result<Model, Refusal> {
+pub fn read(lines: &[Line<'_>], requests: Requests) -> Result<Model, Refusal> {
     let mut reader = Reader {
-        model: Model::empty(),
+        model: Model::empty(requests),
         group: None,
     };
     for (index, line) in lines.iter().enumerate() {
@@ -92,11 +93,16 @@ impl Reader {
         let table = &mut self.model.table;
         let term = Term::new(fields[1], fields[2], fields[3]);
         need(fields[0] as usize == table.len(), 21)?;
-        need(table.len() < Table::LIMIT && term_within(table, term), 22)?;
+        let known = term.kind <= self.model.requests.last_kind();
+        let room = table.len() < Table::LIMIT;
+        need(known && room && term_within(table, term), 22)?;
         need(term_names(table, term), 23)?;
         need(table.find(term).is_none(), 24)?;
         need(
-            !matches!(term.kind, term::SINIT | term::DINIT | term::NONCE),
+            !matches!(
+                term.kind,
+                term::SINIT | term::DINIT | term::NONCE | term::DNONE
+            ),
             25,
         )?;
         table.put(term);
@@ -113,7 +119,10 @@ impl Reader {
         };
         let place = self.place_of_action(program)?;
         need(program < Model::PROGRAMS && place < Model::ACTIONS, 22)?;
-        need(action_within(&action), 22)?;
+        need(
+            action.known(self.model.requests) && action_within(&action),
+            22,
+        )?;
         need(action_names(&self.model.table, &action, place), 23)?;
         if place == 0 {
             self.model.programs.push(Vec::new());
@@ -165,8 +174,7 @@ impl Reader {
         need(self.has_machine(location.machine), 23)?;
         need(self.model.table.lists(location.value), 23)?;
         need(self.model.table.entry(location.value).ground(), 25)?;
-        let register = matches!(location.kind, STATIC | DYNAMIC);
-        need(!register || location.value == term::SINIT, 25)?;
+        need(self.may_start_with(&location), 25)?;
         self.model.locations.push(location);
         Ok(())
     }
@@ -204,6 +212,15 @@ impl Reader {
         Ok(())
     }
 
+    /// A register has the value that it holds after power-up.
+    fn may_start_with(&self, location: &Location) -> bool {
+        match location.kind {
+            STATIC => location.value == term::SINIT,
+            DYNAMIC => location.value == self.model.requests.powered_up(),
+            _ => true,
+        }
+    }
+
     fn has_program(&self, program: u16) -> bool {
         (program as usize) < self.model.programs.len()
     }
@@ -213,13 +230,13 @@ impl Reader {
     }
 }
 
-/// The rules of 22 for a term: kind, unused fields, variable, function, depth.
+/// The rules of 22 for a term of a known kind: unused fields, variable, function, depth.
 fn term_within(table: &Table, term: Term) -> bool {
     let [no_a, no_b] = term.unused();
     let own = match term.kind {
         term::VARIABLE => term.a < Table::VARIABLES,
         term::FUNCTION => term.a < Table::FUNCTIONS,
-        kind => kind <= term::FUNCTION,
+        _ => true,
     };
     own && !(no_a && term.a != 0) && !(no_b && term.b != 0) && table.depth_of(term) <= Table::DEPTH
 }
@@ -234,10 +251,9 @@ fn term_names(table: &Table, term: Term) -> bool {
     parts && (term.kind != term::CODE || (term.a as usize) < Model::PROGRAMS)
 }
 
-/// The rules of 22 for an action: op, unused fields, function.
+/// The rules of 22 for an action of a known op: unused fields, function.
 fn action_within(action: &Action) -> bool {
-    action.op < Action::OPS
-        && (action.uses_loc() || action.loc == 0)
+    (action.uses_loc() || action.loc == 0)
         && (action.uses_x() || action.x == 0)
         && (action.uses_y() || action.y == 0)
         && (action.op != EVAL || action.loc < Table::FUNCTIONS)

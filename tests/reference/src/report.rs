@@ -2,36 +2,41 @@
 // Why: their words and the order of judging (26, then G or R, then the model) are fixed here.
 
 use crate::lines::{split, take_codes, take_order, Order, Refusal};
+use crate::machine::Event;
 use crate::model::Model;
 use crate::reader::read;
+use crate::requests::Requests;
 use crate::run::Run;
 use crate::search::{Tried, Walk};
 use std::io::{Result, Write};
 
-pub fn list(input: &[u8], out: &mut impl Write) -> Result<()> {
-    match read_list(input) {
+pub fn list(input: &[u8], requests: Requests, out: &mut impl Write) -> Result<()> {
+    match read_list(input, requests) {
         Err(refusal) => refuse(refusal, out),
         Ok((model, order)) => listing(&model, order, out),
     }
 }
 
-pub fn run(input: &[u8], out: &mut impl Write) -> Result<()> {
-    match read_run(input) {
+pub fn run(input: &[u8], requests: Requests, out: &mut impl Write) -> Result<()> {
+    match read_run(input, requests) {
         Err(refusal) => refuse(refusal, out),
         Ok((model, codes)) => running(&model, &codes, out),
     }
 }
 
-pub fn read_list(input: &[u8]) -> std::result::Result<(Model, Order), Refusal> {
+pub fn read_list(input: &[u8], requests: Requests) -> std::result::Result<(Model, Order), Refusal> {
     let mut lines = split(input)?;
     let order = take_order(&mut lines)?;
-    Ok((read(&lines)?, order))
+    Ok((read(&lines, requests)?, order))
 }
 
-pub fn read_run(input: &[u8]) -> std::result::Result<(Model, Vec<u16>), Refusal> {
+pub fn read_run(
+    input: &[u8],
+    requests: Requests,
+) -> std::result::Result<(Model, Vec<u16>), Refusal> {
     let mut lines = split(input)?;
     let codes = take_codes(&mut lines)?;
-    Ok((read(&lines)?, codes))
+    Ok((read(&lines, requests)?, codes))
 }
 
 fn refuse(refusal: Refusal, out: &mut impl Write) -> Result<()> {
@@ -61,11 +66,19 @@ fn print_bad(schedule: &[u16], out: &mut impl Write) -> Result<()> {
     writeln!(out)
 }
 
+fn print_ok(code: u16, event: &Event, requests: Requests, out: &mut impl Write) -> Result<()> {
+    write!(out, "ok {code} {} {}", event.serial, event.op())?;
+    if requests.made {
+        write!(out, " {}", event.made)?;
+    }
+    writeln!(out)
+}
+
 fn running(model: &Model, codes: &[u16], out: &mut impl Write) -> Result<()> {
     let mut run = Run::new(model);
     for code in codes {
         match run.advance(*code) {
-            Ok(event) => writeln!(out, "ok {code} {} {}", event.serial, event.op())?,
+            Ok(event) => print_ok(*code, &event, model.requests, out)?,
             Err(number) => writeln!(out, "no {code} {number}")?,
         }
         if run.over {

@@ -5,13 +5,12 @@ use crate::lines::Refusal;
 use crate::model::{Action, Model};
 use crate::term::CODE;
 
-/// V is line 1, so the first listed term, label 3, stands on line 2.
-const FIRST_TERM: usize = 3;
+/// V is line 1, so the first listed term stands on line 2.
 const FIRST_TERM_LINE: usize = 2;
 
 pub fn read(model: &Model) -> Result<(), Refusal> {
     let mut line = FIRST_TERM_LINE;
-    for label in FIRST_TERM..model.table.len() {
+    for label in model.requests.fixed().len()..model.table.len() {
         let term = model.table.term(label as u16);
         if term.kind == CODE && term.a as usize >= model.programs.len() {
             return Err(Refusal { number: 23, line });

@@ -1,6 +1,7 @@
 // Terms and their table: every term stands once, under its label, parts before wholes.
 // Why: two terms are then equal exactly if their labels are, and the table's size is a rule.
 
+use crate::requests::Requests;
 use std::collections::HashMap;
 
 pub type Label = u16;
@@ -21,6 +22,7 @@ pub const SYMMETRIC: u16 = 12;
 pub const HASH: u16 = 13;
 pub const CHAIN: u16 = 14;
 pub const FUNCTION: u16 = 15;
+pub const DNONE: u16 = 16;
 
 #[derive(Clone, Copy, PartialEq, Eq, Hash, Debug)]
 pub struct Term {
@@ -47,7 +49,7 @@ impl Term {
     /// Whether this kind leaves field a, and field b, unused.
     pub fn unused(&self) -> [bool; 2] {
         match self.kind {
-            SINIT | DINIT => [true, true],
+            SINIT | DINIT | DNONE => [true, true],
             PAIR | SIGNATURE | ENCRYPTED | SYMMETRIC | CHAIN | FUNCTION => [false, false],
             _ => [false, true],
         }
@@ -80,14 +82,14 @@ impl Table {
     pub const VARIABLES: u16 = 16;
     pub const FUNCTIONS: u16 = 256;
 
-    /// The table of the three fixed terms: number 0, sinit, dinit.
-    pub fn fixed() -> Table {
+    /// The table of the fixed terms.
+    pub fn fixed(requests: Requests) -> Table {
         let mut table = Table {
             entries: Vec::new(),
             labels: HashMap::new(),
         };
-        for kind in [NUMBER, SINIT, DINIT] {
-            table.put(Term::new(kind, 0, 0));
+        for kind in requests.fixed() {
+            table.put(Term::new(*kind, 0, 0));
         }
         table
     }
