@@ -131,7 +131,8 @@ impl Sketch<'_> {
     }
 
     fn on_location(&mut self, op: u16, place: usize, home: u16) -> Action {
-        let mut action = plain(op, 0, 0);
+        let strong = op == LOCK && self.model.requests.strong && self.random.chance(50);
+        let mut action = plain(if strong { STRONG_LOCK } else { op }, 0, 0);
         if action.uses_x() {
             action.x = self.operand(place);
         }

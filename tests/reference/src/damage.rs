@@ -222,7 +222,7 @@ fn other_version(random: &mut Random, sheet: &mut Sheet) {
 
 /// Another listed label, or the one past the last, for an action's x or y.
 fn other_operand(random: &mut Random, sheet: &mut Sheet) {
-    let label = random.between(0, sheet.count("E") + 3).to_string();
+    let label = random.between(0, sheet.next_label()).to_string();
     let place = random.pick(&[4, 4, 5]);
     let line = sheet.line_of(random, "A");
     if let Some(field) = line.get_mut(place) {
@@ -232,7 +232,7 @@ fn other_operand(random: &mut Random, sheet: &mut Sheet) {
 
 /// Another value for a location: one that is not ground, or not sinit in a register, perhaps.
 fn other_value(random: &mut Random, sheet: &mut Sheet) {
-    let label = random.between(0, sheet.count("E") + 3).to_string();
+    let label = random.between(0, sheet.next_label()).to_string();
     let line = sheet.line_of(random, "L");
     if let Some(field) = line.get_mut(4) {
         *field = label;

@@ -6,24 +6,21 @@ use crate::plan::Mode;
 use crate::random::Random;
 use crate::sheet::{line, Sheet};
 
-fn next_label(sheet: &Sheet) -> usize {
-    3 + sheet.count("E")
-}
-
 fn add_term(sheet: &mut Sheet, kind: usize, a: usize, b: usize) {
-    let label = next_label(sheet);
+    let label = sheet.next_label();
     sheet.insert("E", &[label, kind, a, b]);
 }
 
 /// A listed or fixed term once more.
 pub fn twin_term(random: &mut Random, sheet: &mut Sheet) {
     let fixed = random.chance(30);
-    let mut twin = line("E", &[0, random.below(3), 0, 0]);
+    let kind = random.pick(sheet.requests.fixed());
+    let mut twin = line("E", &[0, kind, 0, 0]);
     if !fixed && sheet.count("E") > 0 {
         twin = sheet.line_of(random, "E").clone();
     }
     twin.resize(5, "0".to_string());
-    twin[1] = next_label(sheet).to_string();
+    twin[1] = sheet.next_label().to_string();
     sheet.insert("E", &twin[1..]);
 }
 
@@ -37,12 +34,12 @@ pub fn unlisted_kind(random: &mut Random, sheet: &mut Sheet) {
 /// A tower up to depth 16, then mostly a term over it that is too deep.
 pub fn tall_term(random: &mut Random, sheet: &mut Sheet) {
     let function = random.between(3, 254);
-    let mut top = random.below(3);
+    let mut top = random.below(sheet.requests.fixed().len());
     for _ in 0..15 {
         add_term(sheet, 15, function, top);
-        top = next_label(sheet) - 1;
+        top = sheet.next_label() - 1;
     }
-    let later = next_label(sheet) + random.below(3);
+    let later = sheet.next_label() + random.below(3);
     match random.below(6) {
         0 => add_term(sheet, 9, top, later),
         1 => add_term(sheet, 14, later, top),
@@ -56,8 +53,8 @@ pub fn tall_term(random: &mut Random, sheet: &mut Sheet) {
 pub fn more_terms(random: &mut Random, sheet: &mut Sheet) {
     let labels = random.pick(&[511, 512, 513, 514]);
     let kind = random.pick(&[0, 3]);
-    while next_label(sheet) < labels {
-        let number = 20_000 + next_label(sheet);
+    while sheet.next_label() < labels {
+        let number = 20_000 + sheet.next_label();
         add_term(sheet, kind, number, 0);
     }
 }
@@ -153,7 +150,10 @@ pub fn far_location(random: &mut Random, sheet: &mut Sheet) {
     let past = sheet.count("L");
     let location = random.pick(&[past, past, past + 1, 31, 32, 33, 65535]);
     let program = sheet.programs();
-    let op = random.between(0, 4);
+    let op = match random.between(0, 4) {
+        3 if sheet.requests.strong => random.pick(&[3, 23]),
+        op => op,
+    };
     sheet.insert("A", &[program, op, location, 0, 0]);
 }
 
@@ -179,7 +179,7 @@ pub fn late_variable(random: &mut Random, sheet: &mut Sheet) {
     let mut label = variable_label(sheet, variable);
     for _ in 0..random.below(3) {
         add_term(sheet, 15, 200 + variable, label);
-        label = next_label(sheet) - 1;
+        label = sheet.next_label() - 1;
     }
     let program = sheet.programs();
     let place = (variable + random.below(3)).saturating_sub(1);
@@ -206,14 +206,14 @@ fn variable_label(sheet: &mut Sheet, variable: usize) -> usize {
         .and_then(|line| line[1].parse().ok());
     listed.unwrap_or_else(|| {
         add_term(sheet, 6, variable, 0);
-        next_label(sheet) - 1
+        sheet.next_label() - 1
     })
 }
 
 /// A new program of one action with fields at or past what its op allows.
 pub fn odd_program(random: &mut Random, sheet: &mut Sheet) {
     let program = sheet.programs() + random.pick(&[0, 0, 0, 1]);
-    let op = random.between(0, 21);
+    let op = random.between(0, if sheet.requests.strong { 24 } else { 21 });
     let loc = random.pick(&[0, 0, 1, 255, 256]);
     let (x, y) = (random.pick(&[0, 0, 1]), random.pick(&[0, 0, 1]));
     sheet.insert("A", &[program, op, loc, x, y]);

@@ -18,6 +18,8 @@ pub const LONGEST_INPUT: usize = 65_536;
 pub const LARGEST_FIELD: u64 = 65_535;
 pub const LARGEST_BUDGET: u64 = 4_294_967_295;
 pub const LARGEST_BOUND: u64 = 24;
+/// The slow lister's room for schedules is at most this.
+pub const MOST_LISTED: u64 = 4_096;
 
 /// All lines of the input, or 26 if it is too long.
 pub fn split(input: &[u8]) -> Result<Vec<Line<'_>>, Refusal> {
@@ -107,27 +109,56 @@ fn order_of(line: Line<'_>) -> Option<Order> {
     }
 }
 
+/// A line of a script, which stands at the end of the input.
+#[derive(Clone, Copy)]
+pub enum Task {
+    Code(u16),
+    /// Give room back, this many events lent.
+    Room(usize),
+    /// The slow lister, with room for so many schedules.
+    Slow {
+        bound: usize,
+        room: usize,
+    },
+}
+
 /// Takes off the longest run of R lines at the end; the first bad one is refused.
 pub fn take_codes(lines: &mut Vec<Line<'_>>) -> Result<Vec<u16>, Refusal> {
+    let tasks = take_script(lines, b"R")?;
+    let code = |task| match task {
+        Task::Code(code) => code,
+        _ => unreachable!("an R line is a code"),
+    };
+    Ok(tasks.into_iter().map(code).collect())
+}
+
+/// Takes off the longest run of lines at the end that open with these letters; the first bad one is refused.
+pub fn take_script(lines: &mut Vec<Line<'_>>, letters: &[u8]) -> Result<Vec<Task>, Refusal> {
+    let task = |line: &Line<'_>| letters.iter().any(|letter| opens_with(*line, *letter));
     let model = lines
         .iter()
-        .rposition(|line| !opens_with(*line, b'R'))
+        .rposition(|line| !task(line))
         .map_or(0, |last| last + 1);
-    let mut codes = Vec::new();
+    let mut tasks = Vec::new();
     for (index, line) in lines.iter().enumerate().skip(model) {
-        codes.push(code_of(*line).ok_or(Refusal {
+        tasks.push(task_of(*line).ok_or(Refusal {
             number: 20,
             line: index + 1,
         })?);
     }
     lines.truncate(model);
-    Ok(codes)
+    Ok(tasks)
 }
 
-fn code_of(line: Line<'_>) -> Option<u16> {
-    let (_, fields) = record(line, LARGEST_FIELD)?;
-    match fields[..] {
-        [code] => Some(code as u16),
+fn task_of(line: Line<'_>) -> Option<Task> {
+    let (letter, fields) = record(line, LARGEST_FIELD)?;
+    match (letter, &fields[..]) {
+        (b'R', [code]) => Some(Task::Code(*code as u16)),
+        (b'K', [lent]) => Some(Task::Room(*lent as usize)),
+        (b'S', [bound, room @ 0..=MOST_LISTED]) => Some(Task::Slow {
+            bound: *bound as usize,
+            room: *room as usize,
+        }),
         _ => None,
     }
 }

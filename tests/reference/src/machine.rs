@@ -67,12 +67,30 @@ pub enum Kind {
 pub struct Event {
     pub kind: Kind,
     pub serial: u32,
+    pub loc: u16,
+    /// The ground operands, and an extend's chain or what the mover binds; 0 where none.
+    pub x: Label,
+    pub y: Label,
+    pub result: Label,
     pub ended: Vec<u16>,
     /// How many terms entered the table.
     pub made: usize,
 }
 
 impl Event {
+    fn of(kind: Kind, serial: u32) -> Event {
+        Event {
+            kind,
+            serial,
+            loc: 0,
+            x: 0,
+            y: 0,
+            result: 0,
+            ended: Vec::new(),
+            made: 0,
+        }
+    }
+
     /// The op as a run prints it: 21 a reset, 22 a hand-over.
     pub fn op(&self) -> u16 {
         match self.kind {
@@ -224,7 +242,16 @@ fn advance(model: &Model, config: &Config, slot: usize) -> Stepped {
     let target = draft.term(x).a;
     let mut next = config.next(draft);
     change_cell(&mut next, &action, thread.serial, x, result);
-    Ok(move_on(model, next, slot, &action, result, target))
+    let (kind, ended) = move_on(model, &mut next, slot, &action, result, target);
+    let event = Event {
+        loc: action.loc,
+        x,
+        y,
+        result,
+        ended: ended.into_iter().collect(),
+        ..Event::of(kind, thread.serial)
+    };
+    Ok((next, event))
 }
 
 /// Refusals 6 and 7: the location is of this machine and its lock does not bar the action.
@@ -264,40 +291,23 @@ fn change_cell(config: &mut Config, action: &Action, serial: u32, x: Label, resu
     }
 }
 
-/// The mover jumps to the target program, or binds its result and goes on.
+/// The mover jumps to the target program, or binds its result and goes on; the program it ended in, if it did.
 fn move_on(
     model: &Model,
-    mut config: Config,
+    config: &mut Config,
     slot: usize,
     action: &Action,
     result: Label,
     target: u16,
-) -> (Config, Event) {
-    let thread = config.slots[slot].as_mut().expect("a mover is live");
-    let serial = thread.serial;
+) -> (Kind, Option<u16>) {
     if action.op == JUMP {
-        *thread = Thread::fresh(serial, thread.agent, thread.machine, target);
-        return (
-            config,
-            Event {
-                kind: Kind::Jump { program: target },
-                serial,
-                ended: Vec::new(),
-                made: 0,
-            },
-        );
+        let thread = config.slots[slot].as_mut().expect("a mover is live");
+        *thread = Thread::fresh(thread.serial, thread.agent, thread.machine, target);
+        return (Kind::Jump { program: target }, None);
     }
     let value = if action.op == EXTEND { NUMBER } else { result };
-    let ended = config.bind(model, slot, value).into_iter().collect();
-    (
-        config,
-        Event {
-            kind: Kind::Plain { op: action.op },
-            serial,
-            ended,
-            made: 0,
-        },
-    )
+    let ended = config.bind(model, slot, value);
+    (Kind::Plain { op: action.op }, ended)
 }
 
 fn late_launch(model: &Model, config: &Config, slot: usize) -> (Config, Event) {
@@ -315,18 +325,11 @@ fn late_launch(model: &Model, config: &Config, slot: usize) -> (Config, Event) {
             };
         }
     }
-    (
-        next,
-        Event {
-            kind: Kind::Launch {
-                thread: new,
-                machine,
-            },
-            serial,
-            ended: Vec::new(),
-            made: 0,
-        },
-    )
+    let kind = Kind::Launch {
+        thread: new,
+        machine,
+    };
+    (next, Event::of(kind, serial))
 }
 
 fn hand_over(model: &Model, config: &Config, from: usize, to: usize) -> Stepped {
@@ -348,15 +351,12 @@ fn hand_over(model: &Model, config: &Config, from: usize, to: usize) -> Stepped 
     let kind = Kind::HandOver {
         receiver: receiver.serial,
     };
-    Ok((
-        next,
-        Event {
-            kind,
-            serial: sender.serial,
-            ended: ends.into_iter().flatten().collect(),
-            made: 0,
-        },
-    ))
+    let event = Event {
+        x: value,
+        ended: ends.into_iter().flatten().collect(),
+        ..Event::of(kind, sender.serial)
+    };
+    Ok((next, event))
 }
 
 fn reset(model: &Model, config: &Config, machine: u16) -> Stepped {
@@ -388,15 +388,7 @@ fn reset(model: &Model, config: &Config, machine: u16) -> Stepped {
         thread: serial,
         machine,
     };
-    Ok((
-        next,
-        Event {
-            kind,
-            serial,
-            ended: Vec::new(),
-            made: 0,
-        },
-    ))
+    Ok((next, Event::of(kind, serial)))
 }
 
 /// Frees every lock of the machine, but puts the guard, if any, on its static registers.

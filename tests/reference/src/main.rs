@@ -6,6 +6,7 @@ mod claim;
 mod count;
 mod damage;
 mod generate;
+mod lengths;
 mod limits;
 mod lines;
 mod machine;
@@ -17,11 +18,14 @@ mod reader;
 mod report;
 mod requests;
 mod results;
+mod room;
 mod run;
 mod search;
 mod second;
 mod sheet;
 mod sketch;
+mod slow;
+mod tell;
 mod term;
 
 use plan::Mode;
@@ -40,6 +44,9 @@ fn main() -> Result<()> {
     let mut out = BufWriter::new(stdout().lock());
     match words[..] {
         ["list"] => report::list(&standard_input()?, requests, &mut out)?,
+        ["report"] if requests.report => lengths::report(&standard_input()?, requests, &mut out)?,
+        ["report"] => wrong_use("report came with request 2: give --with 2"),
+        ["tell"] => tell::tell(&standard_input()?, requests, &mut out)?,
         ["run"] => report::run(&standard_input()?, requests, &mut out)?,
         ["generate", word, seed] => {
             let mode = Mode::of(word).unwrap_or_else(|| wrong_use(USAGE));

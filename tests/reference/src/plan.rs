@@ -94,7 +94,8 @@ impl Sketch<'_> {
             let machine = self.random.below(self.machines) as u16;
             let kind = self.random.pick(&[RAM, RAM, DISK, STATIC, STATIC, DYNAMIC]);
             let value = match kind {
-                STATIC | DYNAMIC => SINIT,
+                STATIC => SINIT,
+                DYNAMIC => self.model.requests.powered_up(),
                 _ if self.random.chance(45) => self.code(),
                 _ => self.ground(),
             };

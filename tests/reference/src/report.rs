@@ -39,7 +39,7 @@ pub fn read_run(
     Ok((read(&lines, requests)?, codes))
 }
 
-fn refuse(refusal: Refusal, out: &mut impl Write) -> Result<()> {
+pub fn refuse(refusal: Refusal, out: &mut impl Write) -> Result<()> {
     writeln!(out, "refused {} {}", refusal.number, refusal.line)
 }
 
@@ -58,7 +58,7 @@ fn listing(model: &Model, order: Order, out: &mut impl Write) -> Result<()> {
     writeln!(out, "{word} {tries} {for_size}")
 }
 
-fn print_bad(schedule: &[u16], out: &mut impl Write) -> Result<()> {
+pub fn print_bad(schedule: &[u16], out: &mut impl Write) -> Result<()> {
     write!(out, "bad {}", schedule.len())?;
     for code in schedule {
         write!(out, " {code}")?;
@@ -85,11 +85,14 @@ fn running(model: &Model, codes: &[u16], out: &mut impl Write) -> Result<()> {
             break;
         }
     }
-    writeln!(
-        out,
-        "done {} {} {}",
-        run.events.len(),
-        run.accepts,
-        run.first_break
-    )
+    print_done(&run, out)
+}
+
+pub fn print_done(run: &Run, out: &mut impl Write) -> Result<()> {
+    let Run {
+        accepts,
+        first_break,
+        ..
+    } = run;
+    writeln!(out, "done {} {accepts} {first_break}", run.events.len())
 }

@@ -4,6 +4,8 @@
 use crate::claim;
 use crate::machine::{step, Config, Event};
 use crate::model::Model;
+use crate::room::give_back;
+use crate::term::Label;
 
 /// The events a run has room for.
 pub const ROOM: usize = 4_096;
@@ -12,7 +14,7 @@ pub const NO_ROOM: u8 = 12;
 
 pub struct Run<'m> {
     model: &'m Model,
-    config: Config,
+    pub config: Config,
     pub events: Vec<Event>,
     pub accepts: usize,
     /// The first breaking step, counted from 1, or 0.
@@ -34,7 +36,25 @@ impl<'m> Run<'m> {
         }
     }
 
+    /// Makes the step of a code; from request 5 on one refused by 9 gets room back and is tried once more.
     pub fn advance(&mut self, code: u16) -> Result<Event, u8> {
+        match self.make(code) {
+            Err(9) if self.model.requests.room => {
+                self.give_back(self.events.len())?;
+                self.make(code)
+            }
+            answer => answer,
+        }
+    }
+
+    /// Gives room back, the last so many events lent: for each old label its new one, if it is kept; or 14.
+    pub fn give_back(&mut self, lent: usize) -> Result<Vec<Option<Label>>, u8> {
+        let first = self.events.len().saturating_sub(lent);
+        give_back(self.model, &mut self.config, &mut self.events[first..])
+    }
+
+    /// Makes the step of a code, by the step alone.
+    pub fn make(&mut self, code: u16) -> Result<Event, u8> {
         let (next, event) = step(self.model, &self.config, code)?;
         if self.events.len() == ROOM {
             self.over = true;

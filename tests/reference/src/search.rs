@@ -45,6 +45,11 @@ impl<'m> Walk<'m> {
         !self.frames.is_empty()
     }
 
+    /// The length of the schedule whose next code is tried.
+    pub fn length(&self) -> usize {
+        self.schedule.len()
+    }
+
     /// Tries the next pair; one must be left.
     pub fn advance(&mut self) -> Tried {
         let frame = self.frames.last_mut().expect("a pair is left");

@@ -3,8 +3,11 @@
 
 use crate::model::Model;
 use crate::random::Random;
+use crate::requests::Requests;
+use crate::term::Label;
 
 pub struct Sheet {
+    pub requests: Requests,
     /// Each line's fields, the record letter first.
     pub lines: Vec<Vec<String>>,
 }
@@ -13,7 +16,10 @@ const LETTERS: &str = "VEAMLTC";
 
 impl Sheet {
     pub fn of(model: &Model) -> Sheet {
-        let mut sheet = Sheet { lines: Vec::new() };
+        let mut sheet = Sheet {
+            requests: model.requests,
+            lines: Vec::new(),
+        };
         sheet.add("V", &[1]);
         sheet.add_terms(model);
         for (number, program) in (0..).zip(&model.programs) {
@@ -38,10 +44,16 @@ impl Sheet {
     }
 
     fn add_terms(&mut self, model: &Model) {
-        for label in 3..model.table.len() as u16 {
+        for label in model.requests.fixed().len()..model.table.len() {
+            let label = label as Label;
             let term = model.table.term(label);
             self.add("E", &[label, term.kind, term.a, term.b]);
         }
+    }
+
+    /// The label of the next E line.
+    pub fn next_label(&self) -> usize {
+        self.requests.fixed().len() + self.count("E")
     }
 
     pub fn add<N: ToString>(&mut self, letter: &str, fields: &[N]) {

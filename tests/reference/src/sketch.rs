@@ -69,6 +69,9 @@ impl Sketch<'_> {
         match self.random.weighted(&[4, 1, 1, 2, 2, 1, 3]) {
             0 => self.term(NUMBER, number, 0),
             1 => SINIT,
+            2 if self.model.requests.dnone => {
+                self.random.pick(&[DINIT, self.model.requests.powered_up()])
+            }
             2 => DINIT,
             3 => self.term(AGENT, number, 0),
             4 => self.term(KEY, key, 0),

@@ -46,6 +46,16 @@ impl Term {
         }
     }
 
+    /// The same term over other parts.
+    pub fn with_parts(&self, part: impl Fn(Label) -> Label) -> Term {
+        let [first, second] = self.parts();
+        Term::new(
+            self.kind,
+            first.map_or(self.a, &part),
+            second.map_or(self.b, &part),
+        )
+    }
+
     /// Whether this kind leaves field a, and field b, unused.
     pub fn unused(&self) -> [bool; 2] {
         match self.kind {
