@@ -74,17 +74,20 @@ impl Counts {
     }
 }
 
+/// Counts what comes of one input.
+type Counter = fn(&mut Counts, &[u8], Requests) -> std::result::Result<(), Refusal>;
+
 pub fn count(seeds: u64, requests: Requests, out: &mut impl Write) -> Result<()> {
-    for (mode, word) in [(Mode::List, "list"), (Mode::Run, "run")] {
+    let programs: [(Mode, &str, Counter); 2] = [
+        (Mode::List, "list", count_list),
+        (Mode::Run, "run", count_run),
+    ];
+    for (mode, word, counter) in programs {
         let mut counts = Counts::default();
         for seed in 0..seeds {
             let (input, damaged) = generate::made(mode, seed, requests);
             counts.add("inputs damaged", u64::from(damaged));
-            let read = match mode {
-                Mode::List => count_list(&mut counts, &input, requests),
-                Mode::Run => count_run(&mut counts, &input, requests),
-            };
-            if let Err(refusal) = read {
+            if let Err(refusal) = counter(&mut counts, &input, requests) {
                 counts.refusal(refusal);
                 counts.add("inputs refused though not damaged", u64::from(!damaged));
             }

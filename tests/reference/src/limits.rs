@@ -221,8 +221,9 @@ pub fn odd_program(random: &mut Random, sheet: &mut Sheet) {
 
 pub fn bad_order(random: &mut Random, sheet: &mut Sheet, mode: Mode) {
     match mode {
-        Mode::List => bad_budget(random, sheet),
-        Mode::Run => bad_code(random, sheet),
+        Mode::List | Mode::Report => bad_budget(random, sheet),
+        Mode::Tell if random.chance(50) => bad_task(random, sheet),
+        Mode::Run | Mode::Tell => bad_code(random, sheet),
     }
 }
 
@@ -288,14 +289,36 @@ fn bad_code(random: &mut Random, sheet: &mut Sheet) {
         &["G", "3", "100"],
         &[""],
     ];
-    let codes = sheet.count("R");
+    among_tasks(random, sheet, &lines);
+}
+
+/// A K or S line at the edge of what it may be, or past it, whether it is in or not.
+fn bad_task(random: &mut Random, sheet: &mut Sheet) {
+    let lines: [&[&str]; 14] = [
+        &["K", "0"],
+        &["K", "65535"],
+        &["K", "65536"],
+        &["K", "01"],
+        &["K"],
+        &["K", "1", "1"],
+        &["k", "1"],
+        &["S", "1", "4096"],
+        &["S", "1", "4097"],
+        &["S", "65535", "0"],
+        &["S", "65536", "0"],
+        &["S", "2"],
+        &["S", "2", "1", "1"],
+        &["SS", "2", "1"],
+    ];
+    among_tasks(random, sheet, &lines);
+}
+
+/// Puts one or two of these lines among those of the script.
+fn among_tasks(random: &mut Random, sheet: &mut Sheet, lines: &[&[&str]]) {
+    let tasks = sheet.count("R") + sheet.count("K") + sheet.count("S");
     for _ in 0..random.between(1, 2) {
-        let new = random
-            .pick(&lines)
-            .iter()
-            .map(|it| it.to_string())
-            .collect();
-        let place = sheet.lines.len() - random.between(0, codes.min(sheet.lines.len()));
+        let new = random.pick(lines).iter().map(|it| it.to_string()).collect();
+        let place = sheet.lines.len() - random.between(0, tasks.min(sheet.lines.len()));
         sheet.lines.insert(place, new);
     }
 }

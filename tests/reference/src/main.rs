@@ -1,4 +1,4 @@
-// The reference bench: list, run, generate and count, each a subcommand of one program.
+// The reference bench: list, run, report, tell, generate and count, each a subcommand of one program.
 // Why: an independent second reading of the rules, to be compared with the proved one.
 
 mod actions;
@@ -34,7 +34,7 @@ use std::io::{stdin, stdout, BufWriter, Read, Result, Write};
 use std::process::exit;
 
 const USAGE: &str =
-    "use: reference list | run | generate list SEED | generate run SEED | count SEEDS,
+    "use: reference list | run | report | tell | generate PROGRAM SEED | count SEEDS,
 with --with 1,2,3 where these requests of document 02 are in";
 
 fn main() -> Result<()> {

@@ -1,9 +1,11 @@
 // The G line of a generated listing and the R lines of a generated run, chosen by trying.
 // Why: budgets that end just at a bad schedule, and codes that are often permitted, need a look ahead.
 
+use crate::lines::Task;
 use crate::machine::{code_after, step, Config, NO_CODE};
 use crate::model::Model;
 use crate::random::Random;
+use crate::run::Run;
 use crate::search::{Tried, Walk};
 use crate::sketch::Style;
 
@@ -74,6 +76,39 @@ pub fn codes(random: &mut Random, model: &Model, style: Style) -> Vec<u16> {
         codes.push(code);
     }
     codes
+}
+
+/// The script of a tell: codes, and between them room given back and slow listings where these are in.
+pub fn tasks(random: &mut Random, model: &Model, style: Style) -> Vec<Task> {
+    if style == Style::Loop && random.chance(10) {
+        return many_codes(random).into_iter().map(Task::Code).collect();
+    }
+    let mut run = Run::new(model);
+    let mut tasks = Vec::new();
+    for _ in 0..random.between(3, 40) {
+        let task = next_task(random, model, &run);
+        match task {
+            Task::Code(code) => drop(run.make(code)),
+            Task::Room(lent) => drop(run.give_back(lent)),
+            Task::Slow { .. } => {}
+        }
+        tasks.push(task);
+    }
+    tasks
+}
+
+fn next_task(random: &mut Random, model: &Model, run: &Run) -> Task {
+    if model.requests.room && random.chance(15) {
+        let events = run.events.len();
+        return Task::Room(random.pick(&[0, 0, 1, 2, 5, events, events + 1, 65_535]));
+    }
+    if model.requests.slow && random.chance(4) {
+        return Task::Slow {
+            bound: random.pick(&[0, 1, 1, 2, 2, 3, 4, 65_535]),
+            room: random.pick(&[0, 1, 2, 10, 100, 4_096]),
+        };
+    }
+    Task::Code(next_code(random, model, &run.config))
 }
 
 /// Enough codes to fill the room for events, if most are permitted.

@@ -8,11 +8,13 @@ use crate::requests::Requests;
 use crate::sketch::{Sketch, Style};
 use crate::term::{Table, SINIT};
 
-/// What is generated for: a listing wants small models, a run may have larger ones.
+/// What is generated for: a listing wants small models, a run may have larger ones. A report is several listings.
 #[derive(Clone, Copy, PartialEq, Eq)]
 pub enum Mode {
     List,
     Run,
+    Report,
+    Tell,
 }
 
 impl Mode {
@@ -20,7 +22,19 @@ impl Mode {
         match word {
             "list" => Some(Mode::List),
             "run" => Some(Mode::Run),
+            "report" => Some(Mode::Report),
+            "tell" => Some(Mode::Tell),
             _ => None,
+        }
+    }
+
+    /// Keeps the inputs of one seed apart.
+    pub fn salt(self) -> u64 {
+        match self {
+            Mode::List => 0x6c69_7374,
+            Mode::Run => 0x7275_6e,
+            Mode::Report => 0x7265_706f,
+            Mode::Tell => 0x7465_6c6c,
         }
     }
 }
@@ -112,10 +126,10 @@ impl Sketch<'_> {
             (Style::Loop, _) => return self.loop_programs(),
             (Style::Chain, _) => return self.chain_programs(),
             (Style::Largest, _) => 16,
-            (Style::Deep, Mode::Run) => 16,
+            (Style::Deep, Mode::Run | Mode::Tell) => 16,
             (Style::Talk, _) => 3,
-            (_, Mode::List) => 4,
-            (_, Mode::Run) => 7,
+            (_, Mode::List | Mode::Report) => 4,
+            (_, Mode::Run | Mode::Tell) => 7,
         };
         for program in 0..self.programs {
             let short = if self.style == Style::Largest { 14 } else { 1 };
@@ -193,8 +207,8 @@ impl Sketch<'_> {
             (Style::Largest, _) => Model::THREADS,
             (Style::Talk | Style::Locks, _) => self.random.between(2, 5),
             (Style::Chain, _) => self.random.weighted(&[2, 5, 3]),
-            (_, Mode::List) => self.random.weighted(&[1, 6, 6, 4, 2]),
-            (_, Mode::Run) => self.random.weighted(&[1, 4, 6, 5, 4, 2, 1, 1, 2]),
+            (_, Mode::List | Mode::Report) => self.random.weighted(&[1, 6, 6, 4, 2]),
+            (_, Mode::Run | Mode::Tell) => self.random.weighted(&[1, 4, 6, 5, 4, 2, 1, 1, 2]),
         };
         let often = match self.style {
             Style::Chain if self.model.claim().launch => 85,
