@@ -33,7 +33,7 @@ if rt fmt --check >"$work/fmt" 2>&1; then pass; else
     cat "$work/fmt"
     miss "rt fmt --check names files: run 'rt fmt'"
 fi
-for part in promises vectors models reference hostile; do
+for part in promises shift vectors models reference hostile; do
     echo "== $part"
     counted "$part" sh "tests/$part.sh"
 done

@@ -26,6 +26,16 @@ kinds=$(ls "$root/tests/vectors")
 need() {
     command -v "$1" >/dev/null 2>&1 || { apt-get update && apt-get install -y "$1"; } >"$work/apt" 2>&1
 }
+# build_reference: builds the independent reference; without it there is nothing to compare with
+build_reference() {
+    reference=$root/tests/reference/target/release/reference
+    need cargo
+    (cd "$root/tests/reference" && cargo build --release --offline) >"$work/cargo" 2>&1 && return
+    cat "$work/cargo"
+    miss "the reference was not built"
+    verdict
+    exit 1
+}
 verdict() {
     echo "$passed passed, $failed failed"
     [ "$failed" = 0 ]

@@ -3,17 +3,10 @@
 # and on fresh inputs made by seed. Use: reference.sh [FIRST-SEED [HOW-MANY]]
 . "$(dirname "$0")/common.sh"
 first=${1:-$(date +%s)} many=${2:-250}
-reference=$root/tests/reference/target/release/reference
+build_reference
 # refer WORD..: the reference with the requests that have landed
 refer() { "$reference" "$@" --with "$landed"; }
 
-need cargo
-if ! (cd "$root/tests/reference" && cargo build --release --offline) >"$work/cargo" 2>&1; then
-    cat "$work/cargo"
-    miss "the reference was not built"
-    verdict
-    exit 1
-fi
 for kind in $kinds; do
     for input in "$root/tests/vectors/$kind"/*.in; do
         refer "${kind#bad-}" <"$input" >"$work/got"
