@@ -1,5 +1,5 @@
 #!/bin/sh
-# The independent reference (tests/reference, written from the scope document alone) and the bench agree: on the vectors,
+# The independent reference (tests/reference, written from the scope document and the requests alone) and the bench agree: on the vectors,
 # and on fresh inputs made by seed. Use: reference.sh [FIRST-SEED [HOW-MANY]]
 . "$(dirname "$0")/common.sh"
 first=${1:-$(date +%s)} many=${2:-250}

@@ -48,6 +48,7 @@ fn sound(random: &mut Random, mode: Mode, requests: Requests) -> Sheet {
                 sheet.add("R", &[code]);
             }
         }
+        Mode::Ever => {}
         Mode::Tell => {
             for task in tasks(random, &model, style) {
                 match task {

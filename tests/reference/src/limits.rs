@@ -221,7 +221,7 @@ pub fn odd_program(random: &mut Random, sheet: &mut Sheet) {
 
 pub fn bad_order(random: &mut Random, sheet: &mut Sheet, mode: Mode) {
     match mode {
-        Mode::List | Mode::Report => bad_budget(random, sheet),
+        Mode::List | Mode::Report | Mode::Ever => bad_budget(random, sheet),
         Mode::Tell if random.chance(50) => bad_task(random, sheet),
         Mode::Run | Mode::Tell => bad_code(random, sheet),
     }

@@ -1,10 +1,11 @@
-// The reference bench: list, run, report, tell, generate and count, each a subcommand of one program.
+// The reference bench: list, run, report, tell, ever, generate and count, each a subcommand of one program.
 // Why: an independent second reading of the rules, to be compared with the proved one.
 
 mod actions;
 mod claim;
 mod count;
 mod damage;
+mod ever;
 mod generate;
 mod lengths;
 mod limits;
@@ -34,7 +35,7 @@ use std::io::{stdin, stdout, BufWriter, Read, Result, Write};
 use std::process::exit;
 
 const USAGE: &str =
-    "use: reference list | run | report | tell | generate PROGRAM SEED | count SEEDS,
+    "use: reference list | run | report | tell | ever | generate PROGRAM SEED | count SEEDS,
 with --with 1,2,3 where these requests of document 02 are in";
 
 fn main() -> Result<()> {
@@ -46,6 +47,7 @@ fn main() -> Result<()> {
         ["list"] => report::list(&standard_input()?, requests, &mut out)?,
         ["report"] if requests.report => lengths::report(&standard_input()?, requests, &mut out)?,
         ["report"] => wrong_use("report came with request 2: give --with 2"),
+        ["ever"] => ever::ever(&standard_input()?, requests, &mut out)?,
         ["tell"] => tell::tell(&standard_input()?, requests, &mut out)?,
         ["run"] => report::run(&standard_input()?, requests, &mut out)?,
         ["generate", word, seed] => {
@@ -66,7 +68,8 @@ fn take_requests(words: &mut Vec<String>) -> std::result::Result<Requests, Strin
     if place + 1 == words.len() {
         return Err("--with wants the numbers of requests, as --with 1,2,3".to_string());
     }
-    let list = words.drain(place..=place + 1).last().unwrap_or_default();
+    let list = words.remove(place + 1);
+    words.remove(place);
     Requests::of(&list)
 }
 

@@ -15,6 +15,7 @@ pub enum Mode {
     Run,
     Report,
     Tell,
+    Ever,
 }
 
 impl Mode {
@@ -24,6 +25,7 @@ impl Mode {
             "run" => Some(Mode::Run),
             "report" => Some(Mode::Report),
             "tell" => Some(Mode::Tell),
+            "ever" => Some(Mode::Ever),
             _ => None,
         }
     }
@@ -35,6 +37,7 @@ impl Mode {
             Mode::Run => 0x7275_6e,
             Mode::Report => 0x7265_706f,
             Mode::Tell => 0x7465_6c6c,
+            Mode::Ever => 0x6576_6572,
         }
     }
 }
@@ -128,7 +131,7 @@ impl Sketch<'_> {
             (Style::Largest, _) => 16,
             (Style::Deep, Mode::Run | Mode::Tell) => 16,
             (Style::Talk, _) => 3,
-            (_, Mode::List | Mode::Report) => 4,
+            (_, Mode::List | Mode::Report | Mode::Ever) => 4,
             (_, Mode::Run | Mode::Tell) => 7,
         };
         for program in 0..self.programs {
@@ -207,7 +210,7 @@ impl Sketch<'_> {
             (Style::Largest, _) => Model::THREADS,
             (Style::Talk | Style::Locks, _) => self.random.between(2, 5),
             (Style::Chain, _) => self.random.weighted(&[2, 5, 3]),
-            (_, Mode::List | Mode::Report) => self.random.weighted(&[1, 6, 6, 4, 2]),
+            (_, Mode::List | Mode::Report | Mode::Ever) => self.random.weighted(&[1, 6, 6, 4, 2]),
             (_, Mode::Run | Mode::Tell) => self.random.weighted(&[1, 4, 6, 5, 4, 2, 1, 1, 2]),
         };
         let often = match self.style {

@@ -33,7 +33,12 @@ impl Requests {
                 "5" => requests.room = true,
                 "6" => requests.strong = true,
                 "7" => requests.slow = true,
-                _ => return Err(format!("there is no request '{number}' here: give numbers from 1 to 7 parted by commas, as --with 1,2,3")),
+                _ => {
+                    return Err(format!(
+                        "there is no request '{number}' here: \
+                         give numbers from 1 to 7 parted by commas, as --with 1,2,3"
+                    ))
+                }
             }
         }
         Ok(requests)
