@@ -2,7 +2,7 @@
 use crate::answers::put_answers;
 use crate::answers::put_done;
 use machine::claim::all_accepts;
-use machine::run::run;
+use runs::run::run;
 use model::records::Model;
 use state::control::Control;
 use trace::claim::judge;
