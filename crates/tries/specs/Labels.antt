@@ -1,4 +1,4 @@
--- The model's machine as the search sees it: what comes of trying a code in a configuration. 'Every schedule runs from the
+-- The model's machine as a search sees it: what comes of trying a code in a configuration. 'Every schedule runs from the
 -- model's fresh configuration, its table the fixed and listed terms alone.' It is the machine on labels of crate `law`, with the
 -- claim of crate `machine` and the real codes.
 use Prim.Native.Nat.{ℕ}

@@ -1,4 +1,4 @@
--- `machine::run::all_refused` meets its contract: the loop keeps that filling all answers gives what filling those
+-- `runs::run::all_refused` meets its contract: the loop keeps that filling all answers gives what filling those
 -- left gives. The measure is what is left.
 use Prim.Native.Nat.{_-_, _≤_}
 use mathlib.Core.Path.{_≡_, refl, _∙_}

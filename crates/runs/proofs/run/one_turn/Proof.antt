@@ -1,4 +1,4 @@
--- `machine::run::one_turn` meets its contract: the step's answer, then what it makes of the run.
+-- `runs::run::one_turn` meets its contract: the step's answer, then what it makes of the run.
 use borrow.Author.Needs.{needs}
 use Rattle.runs.specs.Run.{oneTurn}
 use Rattle.runs.proofs.run.one_turn.Statement.{statement}

@@ -1,4 +1,4 @@
--- `machine::run::permitted` meets its contract: the table of records is full, or takes one more.
+-- `runs::run::permitted` meets its contract: the table of records is full, or takes one more.
 use borrow.Author.Tests.{le-leb, lt-leb}
 use borrow.Author.Needs.{needs}
 use Rattle.runs.specs.Run.{permittedOn}

@@ -1,4 +1,4 @@
--- `machine::run::run` meets its contract: every code refused where a test fails, else the steps.
+-- `runs::run::run` meets its contract: every code refused where a test fails, else the steps.
 use borrow.Author.Tests.{not-true, not-false}
 use borrow.Author.Needs.{needs}
 use Rattle.runs.specs.Run.{runOn}

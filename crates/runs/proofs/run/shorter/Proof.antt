@@ -1,4 +1,4 @@
--- `machine::run::shorter` meets its contract: the two cases of the definition; both bounds are told to the loops.
+-- `runs::run::shorter` meets its contract: the two cases of the definition; both bounds are told to the loops.
 use borrow.Author.Needs.{needs}
 use borrow.Author.Tests.{lt-ltb, le-ltb}
 use Rattle.runs.specs.Run.{shorter}

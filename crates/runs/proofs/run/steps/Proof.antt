@@ -1,4 +1,4 @@
--- `machine::run::steps` meets its contract: the loop keeps that the course from the first code on is the course of
+-- `runs::run::steps` meets its contract: the loop keeps that the course from the first code on is the course of
 -- the codes left, and that the lent tables keep their lengths. The measure is the codes left.
 use Prim.Native.Nat.{_-_, _<_, _≤_}
 use mathlib.Core.Path.{_≡_, refl, ap}

@@ -1,4 +1,4 @@
--- `machine::run::turn` meets its contract: refused or permitted, as the reply says.
+-- `runs::run::turn` meets its contract: refused or permitted, as the reply says.
 use borrow.Author.Needs.{needs}
 use Rattle.runs.specs.Run.{turnOn}
 use Rattle.runs.proofs.run.turn.Statement.{statement}
