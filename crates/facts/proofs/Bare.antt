@@ -14,7 +14,7 @@ use Rattle.law.specs.Size.{fits}
 use Rattle.law.specs.Act.{numOf, result, programOf}
 use Rattle.law.specs.Rules.{freshState, operand, acts, made, stepR}
 use Rattle.machine.specs.Claim.{acceptsOf, madeIn, jumpsOf, beginsWith, someOf, walkedIn, breaksClaim}
-use Rattle.search.specs.Labels.{realCodes, limited}
+use Rattle.tries.specs.Labels.{realCodes, limited}
 use Rattle.facts.specs.Models.{bare}
 use Rattle.facts.proofs.Opened.{lines-open, trees-open, records-open, fresh-open, frame-open, made-open}
 

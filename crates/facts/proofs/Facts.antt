@@ -13,7 +13,7 @@ use Rattle.audit.specs.Models.{soundModel}
 use Rattle.audit.proofs.Bare.{bare-sound}
 use Rattle.walk.specs.Trail.{trails, badIn, sizedIn}
 use Rattle.walk.proofs.Gather.{Counted}
-use Rattle.search.specs.Labels.{labels}
+use Rattle.tries.specs.Labels.{labels}
 use Rattle.search.specs.Search.{boundFits}
 use Rattle.search.specs.Shown.{Arrays}
 use Rattle.search.proofs.Promises.{same-tries}

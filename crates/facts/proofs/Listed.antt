@@ -21,13 +21,13 @@ use Rattle.walk.proofs.Array.{length-stack}
 use Rattle.walk.proofs.Placed.{whole}
 use Rattle.walk.proofs.Gather.{Counted}
 use Rattle.walk.proofs.ListPasses.{listSeen, list-passes}
-use Rattle.search.specs.Labels.{labels}
+use Rattle.tries.specs.Labels.{labels}
 use Rattle.search.specs.Place.{startPlace}
 use Rattle.search.specs.Answer.{listed, roomFor}
 use Rattle.search.specs.Search.{boundFits, listingOn}
 use Rattle.search.specs.Shown.{padded, placeAt, tidied, wordsPut, listingShown, callOn, GoodPlace, GoodBudget, Arrays}
 use Rattle.search.specs.declared.answer.Kind.the-variants.{End}
-use Rattle.search.proofs.Codes.{labels-coded}
+use Rattle.tries.proofs.Codes.{labels-coded}
 use Rattle.search.proofs.Searched.{same-place, short, tidied-ok}
 use Rattle.search.proofs.Promises.{start-first, start-good, finds-all, tries-all, sizes-all, ends-some-time}
 use Rattle.search.proofs.Listings.{listing-shows, next-tidied}

@@ -4,5 +4,3 @@ pub mod Step
 pub mod Claim
 pub mod Recorded
 pub mod Judge
-pub mod Run
-pub mod Fold

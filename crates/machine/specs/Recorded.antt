@@ -32,6 +32,15 @@ pub data HoldsFrom (l : List ℕ) : ℕ → List Happening → Type 0 where
 abbrev pub Holds : List ℕ → List Happening → Type 0
 Holds l hs = HoldsFrom l 0 hs
 
+-- an answer, and both lent tables as they are left
+pub record Left (A : Type 0) : Type 0 where
+  pub out : A
+  pub table : List ℕ
+  pub records : List ℕ
+
+abbrev pub left : {A : Type 0} → A → List ℕ → List ℕ → Left A
+left r l rs = record { out = r; table = l; records = rs }
+
 -- a path of at most four programs, in an array of four
 pub record ShortPath (c : Claim) : Type 0 where
   pub short : c .length ≤ 4

@@ -17,13 +17,13 @@ use Rattle.walk.specs.Array.{Spot, view}
 use Rattle.walk.specs.Passed.{passing}
 use Rattle.walk.specs.List.{Close, full, spent, done, Listed, Closes, no-room, used-up, no-more, ListPassed, listIn, listAll}
 use Rattle.walk.proofs.ListPasses.{listSeen, list-passes}
-use Rattle.search.specs.Labels.{labels}
+use Rattle.tries.specs.Labels.{labels}
 use Rattle.search.specs.Place.{startPlace}
 use Rattle.search.specs.Answer.{roomFor}
 use Rattle.search.specs.Search.{boundFits}
 use Rattle.search.specs.Shown.{placeAt, tidied, kindOf, GoodPlace, GoodBudget, Arrays}
 use Rattle.search.specs.declared.place.Place.{Place}
-use Rattle.search.proofs.Codes.{labels-coded}
+use Rattle.tries.proofs.Codes.{labels-coded}
 use Rattle.search.proofs.Joined.{bound-parts}
 use Rattle.search.proofs.Searched.{tidied-ok}
 use Rattle.search.proofs.Promises.{start-good}

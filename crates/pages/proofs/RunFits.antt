@@ -17,9 +17,10 @@ use Rattle.rules.specs.Event.{numberAt}
 use Rattle.rules.specs.Made.{Layout}
 use Rattle.machine.specs.Judge.{firstBreakOn, acceptsOn}
 use Rattle.law.specs.Rules.{layoutOf}
+use Rattle.machine.specs.Recorded.{Left}
 use Rattle.machine.specs.Step.{isSound}
-use Rattle.machine.specs.Run.{ran, Left, Course, course, oneTurn, stepsFrom, shorter, triedOf, stepsOn, allRefused, untouched, runOn}
-use Rattle.machine.specs.declared.run.Outcome.{Outcome}
+use Rattle.runs.specs.Run.{ran, Course, course, oneTurn, stepsFrom, shorter, triedOf, stepsOn, allRefused, untouched, runOn}
+use Rattle.runs.specs.declared.run.Outcome.{Outcome}
 use Rattle.lines.specs.Line.{span, noLF, cutLine, linesOf, joined}
 use Rattle.lines.specs.Field.{wellSpelt, fieldOf, opensWith}
 use Rattle.lines.specs.Codes.{codeBy, codeIn, codeCut, nextCode}

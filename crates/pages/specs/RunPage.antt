@@ -5,7 +5,7 @@ use Rattle.model.specs.declared.records.Claim.{Claim}
 use Rattle.model.specs.declared.records.Model.{Model}
 use Rattle.state.specs.Control.{freshControl}
 use Rattle.machine.specs.Judge.{firstBreakOn, acceptsOn}
-use Rattle.machine.specs.Run.{Course, runOn}
+use Rattle.runs.specs.Run.{Course, runOn}
 use Rattle.lines.specs.Put.{Written, written, putAll}
 use Rattle.pages.specs.RunText.{answersText, doneLine}
 

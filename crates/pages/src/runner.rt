@@ -2,8 +2,8 @@
 use crate::answers::put_answers;
 use crate::answers::put_done;
 use machine::claim::all_accepts;
-use machine::run::run;
 use model::records::Model;
+use runs::run::run;
 use state::control::Control;
 use trace::claim::judge;
 ghost use mathlib.Core.Path.{_≡_};

@@ -22,7 +22,7 @@ use Rattle.rules.specs.declared.inner.Stepped.{Stepped}
 use Rattle.rules.specs.declared.work.Labels.{Labels}
 use Rattle.machine.specs.Claim.{breaksClaim}
 use Rattle.machine.specs.Judge.{breaksOn}
-use Rattle.machine.specs.Run.{Left}
+use Rattle.machine.specs.Recorded.{Left}
 use Rattle.walk.specs.Machine.{Machine}
 use Rattle.walk.specs.Machine as O
 use Rattle.walk.specs.Place.{at, unbroken}
@@ -34,16 +34,17 @@ use Rattle.quiet.specs.Quiet.{deepestIn, deepest}
 use Rattle.quiet.proofs.Bounds.{Bounds, deeper-bounds}
 use Rattle.law.specs.Rules.{layoutOf}
 use Rattle.law.specs.Machines.{LabelsConf}
-use Rattle.search.specs.Labels.{tryCode, labels}
+use Rattle.tries.specs.Labels.{tryCode, labels}
+use Rattle.tries.proofs.Along.{Sane, workAt, eventAt, confAt, Went, no, yes, step-went, went-code, at-sane, at-grows, at-long}
+use Rattle.tries.proofs.Judging.{Judging}
 use Rattle.search.specs.Place.{place, startPlace, atCode, codeIn, pushed}
 use Rattle.search.specs.Enter.{noControl, wentOn, Climb, climb, entered, onGood, enterStep, enterIn, enterOn}
 use Rattle.search.specs.Search.{deepsOf}
 use Rattle.search.specs.Shown.{padded, tidied}
 use Rattle.search.specs.declared.place.Place.{Place}
 use Rattle.search.specs.declared.enter.Entered.{Entered}
-use Rattle.search.proofs.Along.{Sane, workAt, eventAt, confAt, Went, no, yes, step-went, went-code, at-sane, at-grows, at-long}
 use Rattle.search.proofs.JoinPlace.{spot, push-is}
-use Rattle.search.proofs.JoinStand.{Judging, there, Parts}
+use Rattle.search.proofs.JoinStand.{there, Parts}
 use Rattle.search.proofs.JoinRoom.{clean-padded}
 
 -- the same codes are the same stack

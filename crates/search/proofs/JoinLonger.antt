@@ -35,7 +35,10 @@ use Rattle.quiet.specs.Quiet.{deepest, outlineOf, allNear, shallow}
 use Rattle.quiet.proofs.Bounds.{Bounds, deeper-grown}
 use Rattle.law.specs.Rules.{layoutOf}
 use Rattle.law.specs.Machines.{LabelsConf}
-use Rattle.search.specs.Labels.{realCodes, tryCode, labels}
+use Rattle.tries.specs.Labels.{realCodes, tryCode, labels}
+use Rattle.tries.proofs.Codes.{codes-long, from-after, labels-coded}
+use Rattle.tries.proofs.Along.{Sane, workAt, eventAt, confAt, at-sane}
+use Rattle.tries.proofs.Judging.{Judging}
 use Rattle.search.specs.Place.{atCode}
 use Rattle.search.specs.Enter.{noControl}
 use Rattle.search.specs.Turn.{walk, between, past, standsAt, turned, lent}
@@ -44,10 +47,8 @@ use Rattle.search.specs.Shown.{spotOf}
 use Rattle.search.specs.declared.answer.Kind.the-variants.{Found, End}
 use Rattle.search.specs.declared.turn.Walk.{Walk}
 use Rattle.search.specs.declared.turn.Task.{Task}
-use Rattle.search.proofs.Codes.{codes-long, from-after, labels-coded}
-use Rattle.search.proofs.Along.{Sane, workAt, eventAt, confAt, at-sane}
 use Rattle.search.proofs.JoinPlace.{settle-code, settle-start}
-use Rattle.search.proofs.JoinStand.{Judging, Quiet, Parts}
+use Rattle.search.proofs.JoinStand.{Quiet, Parts}
 use Rattle.search.proofs.JoinPass.{quiet-parts, soon-parts, late-parts, back-is}
 use Rattle.search.proofs.JoinShows.{confOf, letOf, Inv, listOf, Turns, goes-on, roomAfter, j-small, parts, turned-is, inv-on, some-room}
 use Rattle.search.proofs.JoinSought.{Tries}

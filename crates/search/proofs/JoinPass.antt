@@ -18,7 +18,7 @@ use Rattle.walk.specs.Array.{settledIn}
 use Rattle.walk.proofs.Loop.{ZeroPast}
 use Rattle.quiet.specs.Quiet.{allFit, allNear, calm, shallow}
 use Rattle.quiet.specs.declared.quiet.Outline.{Outline}
-use Rattle.search.specs.Labels.{realCodes, labels}
+use Rattle.tries.specs.Labels.{realCodes, labels}
 use Rattle.search.specs.Search.{atLast, quietAt, passesSoon, passesLate}
 use Rattle.search.specs.declared.turn.Task.{Task}
 

@@ -15,11 +15,11 @@ use Rattle.walk.specs.Place.{from}
 use Rattle.walk.specs.Array.{Spot, settledIn}
 use Rattle.walk.proofs.Codes.{from-zero}
 use Rattle.walk.proofs.Loop.{settled-here}
-use Rattle.search.specs.Labels.{realCodes, labels}
+use Rattle.tries.specs.Labels.{realCodes, labels}
+use Rattle.tries.proofs.Codes.{isNext, past-codes, from-code, from-after, next-low, next-high, after-next}
 use Rattle.search.specs.Place.{place, codePut, codeIn, pushed, popped, isDone, settleBy, settleIn, settled}
 use Rattle.search.specs.Shown.{spotOf}
 use Rattle.search.specs.declared.place.Place.{Place}
-use Rattle.search.proofs.Codes.{isNext, past-codes, from-code, from-after, next-low, next-high, after-next}
 
 abbrev pub spot : List ℕ → ℕ → ℕ → Spot
 spot cs j k = record { codes = cs; len = j; next = k }

@@ -26,7 +26,7 @@ use Rattle.law.proofs.KeptFresh.{fresh-passes}
 use Rattle.law.proofs.KeptStep.{step-sound}
 use Rattle.quiet.proofs.Fitting.{fits-shallow, fits-near, fits-all}
 use Rattle.quiet.proofs.Plain.{plain-ahead}
-use Rattle.search.specs.Labels.{judgeOf, tryCode, labels}
+use Rattle.tries.specs.Labels.{judgeOf, tryCode, labels}
 use Rattle.search.specs.Shown.{Arrays}
 use Rattle.search.proofs.JoinStand.{Quiet}
 

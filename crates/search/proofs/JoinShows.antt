@@ -22,7 +22,10 @@ use Rattle.walk.specs.List as S
 use Rattle.walk.proofs.Lists.{all-imp}
 use Rattle.walk.proofs.List.{Settled, settle-twice, list-skip}
 use Rattle.law.specs.Machines.{LabelsConf}
-use Rattle.search.specs.Labels.{realCodes, tryCode, labels}
+use Rattle.tries.specs.Labels.{realCodes, tryCode, labels}
+use Rattle.tries.proofs.Codes.{Piece, piece, labels-coded}
+use Rattle.tries.proofs.Along.{Sane, sightAt, try-early}
+use Rattle.tries.proofs.Judging.{Judging}
 use Rattle.search.specs.Answer.{roomFor}
 use Rattle.search.specs.Enter.{noControl}
 use Rattle.search.specs.Turn.{between, Lent, turnOn}
@@ -31,9 +34,7 @@ use Rattle.search.specs.Shown.{spotOf, kindOf, wordPut, wordsPut}
 use Rattle.search.specs.declared.answer.Kind.the-variants.{Found}
 use Rattle.search.specs.declared.turn.Turned.{Turned}
 use Rattle.search.specs.declared.turn.Task.{Task}
-use Rattle.search.proofs.Codes.{Piece, piece, labels-coded}
-use Rattle.search.proofs.Along.{Sane, sightAt, try-early}
-use Rattle.search.proofs.JoinStand.{Judging, Parts, Stands, stands-from}
+use Rattle.search.proofs.JoinStand.{Parts, Stands, stands-from}
 use Rattle.search.proofs.JoinRoom.{words-none}
 
 -- the configuration that the walk stands at, and the code that is let through there, or 164

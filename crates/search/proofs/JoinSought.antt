@@ -21,7 +21,10 @@ use Rattle.walk.specs.List.{spent, done, listWalk}
 use Rattle.walk.specs.List as S
 use Rattle.walk.proofs.List.{list-over, list-spent}
 use Rattle.law.specs.Machines.{LabelsConf}
-use Rattle.search.specs.Labels.{realCodes, labels}
+use Rattle.tries.specs.Labels.{realCodes, labels}
+use Rattle.tries.proofs.Codes.{isNext, below-small, code-below, below-orders, below-rises, nth-code, none-next, next-low, next-high, code-low}
+use Rattle.tries.proofs.Along.{Sane, sightAt}
+use Rattle.tries.proofs.Judging.{Judging}
 use Rattle.search.specs.Place.{place, atCode, settled}
 use Rattle.search.specs.Turn.{walk, between, reached, closed, past}
 use Rattle.search.specs.Search.{Scene, scene, sheetsOf, turnedOn, task}
@@ -30,10 +33,7 @@ use Rattle.search.specs.declared.place.Place.{Place}
 use Rattle.search.specs.declared.answer.Kind.the-variants.{Stop, End}
 use Rattle.search.specs.declared.turn.Walk.{Walk}
 use Rattle.search.specs.declared.turn.Task.{Task}
-use Rattle.search.proofs.Codes.{isNext, below-small, code-below, below-orders, below-rises, nth-code, none-next, next-low, next-high, code-low}
-use Rattle.search.proofs.Along.{Sane, sightAt}
 use Rattle.search.proofs.JoinPlace.{spot, settle-code, settle-is}
-use Rattle.search.proofs.JoinStand.{Judging}
 use Rattle.search.proofs.JoinShows.{confOf, letOf, Inv, listOf, Turns, goes-on, roomAfter}
 use Rattle.search.proofs.JoinShows.{j-small, parts, turned-is, inv-on, closes-with, some-room, skip-to}
 use Rattle.search.proofs.JoinTurn as T

@@ -1,22 +1,15 @@
 -- How the program stands at a place of the walk: its stack has the configuration of each shorter schedule, with a bound for the
 -- depths of its terms, its table is the one there with perhaps some terms more, its records are the events there. Going back keeps
 -- all that.
-use Prim.Native.Nat.{ℕ, zero, suc, _+_, _*_, _<_, _≤_}
+use Prim.Native.Nat.{ℕ, zero, suc, _<_, _≤_}
 use mathlib.Core.Bool.{Bool, true}
-use mathlib.Core.List.{List, [], _∷_, _++_, List·Memᴰ·head}
+use mathlib.Core.List.{List, [], _∷_, List·Memᴰ·head}
 use mathlib.Core.Path.{_≡_, refl, sym, ap, _∙_, subst}
 use native.Mathlib.Omega.{arith}
 use lib.ListN.{length, getD, set, length-set}
 use Rattle.terms.proofs.Back.{Grown, grown-then}
 use Rattle.model.specs.declared.records.Model.{Model}
 use Rattle.state.specs.declared.control.Control.{Control}
-use Rattle.state.specs.declared.control.Frame.{Frame}
-use Rattle.rules.specs.Event.{recordOf, recordPut}
-use Rattle.rules.specs.Happened.{happenedOn}
-use Rattle.rules.specs.declared.event.Happening.{Happening}
-use Rattle.rules.specs.declared.work.Labels.{Labels}
-use Rattle.machine.specs.Claim.{breaksClaim}
-use Rattle.machine.specs.Judge.{breaksOn, brokenBy}
 use Rattle.quiet.specs.Quiet.{allFit, allNear, calm, shallow, outlineOf}
 use Rattle.quiet.proofs.Bounds.{Bounds}
 use Rattle.walk.specs.Machine.{Machine}
@@ -29,22 +22,11 @@ use Rattle.walk.proofs.Array.{stack-set}
 use Rattle.walk.proofs.Loop.{Clean}
 use Rattle.walk.proofs.Loop as L
 use Rattle.law.specs.Machines.{LabelsConf}
-use Rattle.search.specs.Labels.{realCodes, tryCode, labels}
+use Rattle.tries.specs.Labels.{realCodes, tryCode, labels}
+use Rattle.tries.proofs.Codes.{isNext, mem-code, code-next, none-next}
+use Rattle.tries.proofs.Along.{Sane, at-grows, at-events}
+use Rattle.tries.proofs.Judging.{Judging}
 use Rattle.search.specs.Enter.{noControl}
-use Rattle.search.proofs.Codes.{isNext, mem-code, code-next, none-next}
-use Rattle.search.proofs.Along.{Sane, at-grows, at-events}
-
--- what judging over records gives: records hold events, a record put behind them holds one more, and the test over records is
--- the claim over the events, both of an event that is recorded and of the endings of one that is not yet
-pub record Judging (m : Model) : Type 1 where
-  pub Holds : List ℕ → List Happening → Type 0
-  pub none : (l : List ℕ) → Holds l []
-  pub less : (l : List ℕ) (hs : List Happening) (h : Happening) → Holds l (hs ++ (h ∷ [])) → Holds l hs
-  pub put : (l : List ℕ) (hs : List Happening) (f : Frame) (k : ℕ) (b : Labels) → length hs * 12 + 12 ≤ length l → Holds l hs →
-      Holds (recordPut l (length hs) (recordOf (happenedOn f (m .actions) (m .lengths) k b))) (hs ++ (happenedOn f (m .actions) (m .lengths) k b ∷ []))
-  pub long : (l : List ℕ) (i : ℕ) (h : Happening) → length (recordPut l i (recordOf h)) ≡ length l
-  pub judged : (l : List ℕ) (hs : List Happening) (h : Happening) → Holds l (hs ++ (h ∷ [])) → breaksOn l (length hs) (m .claim) ≡ breaksClaim (m .claim) hs h
-  pub ending : (l : List ℕ) (hs : List Happening) (h : Happening) → Holds l hs → brokenBy l (length hs) (h .ended) (m .claim) ≡ breaksClaim (m .claim) hs h
 
 abbrev pub calmAt : Model → LabelsConf → Bool
 calmAt m c = calm (c .control .frame .slots) (m .lengths) (c .control .count) (outlineOf m)

@@ -40,7 +40,10 @@ use Rattle.walk.specs.List.{withWords, listTurn, listWalk}
 use Rattle.walk.proofs.Array.{length-stack}
 use Rattle.walk.proofs.List.{list-turn}
 use Rattle.law.specs.Machines.{LabelsConf}
-use Rattle.search.specs.Labels.{realCodes, tryCode, labels}
+use Rattle.tries.specs.Labels.{realCodes, tryCode, labels}
+use Rattle.tries.proofs.Codes.{after-next, from-after}
+use Rattle.tries.proofs.Along.{Sane, sightAt, workAt, eventAt, confAt, try-refused, try-done, at-sane, at-long}
+use Rattle.tries.proofs.Judging.{Judging}
 use Rattle.search.specs.Place.{place, atCode, pushed, settled}
 use Rattle.search.specs.Answer.{roomFor}
 use Rattle.search.specs.Turn.{walk, between, oneTryMore, past, oneSized, refusedBy, foundOn, still, lent}
@@ -49,10 +52,8 @@ use Rattle.search.specs.Shown.{spotOf, wordPut}
 use Rattle.search.specs.declared.place.Place.{Place}
 use Rattle.search.specs.declared.answer.Kind.the-variants.{Found, End}
 use Rattle.search.specs.declared.turn.Task.{Task}
-use Rattle.search.proofs.Codes.{after-next, from-after}
-use Rattle.search.proofs.Along.{Sane, sightAt, workAt, eventAt, confAt, try-refused, try-done, at-sane, at-long}
 use Rattle.search.proofs.JoinPlace.{spot, settle-code, settle-is, push-is}
-use Rattle.search.proofs.JoinStand.{Judging, Parts}
+use Rattle.search.proofs.JoinStand.{Parts}
 use Rattle.search.proofs.JoinRoom.{put-is, room-kept}
 use Rattle.search.proofs.JoinShows.{confOf, letOf, Inv, listOf, Turns, goes-on, meets, roomAfter}
 use Rattle.search.proofs.JoinShows.{j-small, parts, turned-is, inv-on, some-room}

@@ -15,15 +15,16 @@ use Rattle.machine.specs.Claim.{breaksClaim}
 use Rattle.walk.specs.List.{full}
 use Rattle.walk.specs.List as S
 use Rattle.walk.proofs.List.{list-full}
-use Rattle.search.specs.Labels.{labels}
+use Rattle.tries.specs.Labels.{labels}
+use Rattle.tries.proofs.Along.{Sane, workAt, eventAt}
+use Rattle.tries.proofs.Judging.{Judging}
 use Rattle.search.specs.Answer.{roomFor}
 use Rattle.search.specs.Turn.{between}
 use Rattle.search.specs.Search.{Scene, turnedOn, task, goingOn, walkIn}
 use Rattle.search.specs.Shown.{spotOf}
 use Rattle.search.specs.declared.turn.Walk.{Walk}
-use Rattle.search.proofs.Along.{Sane, workAt, eventAt}
 use Rattle.search.proofs.Laws.{rests}
-use Rattle.search.proofs.JoinStand.{Judging, Quiet}
+use Rattle.search.proofs.JoinStand.{Quiet}
 use Rattle.search.proofs.JoinRoom.{words-one, words-none}
 use Rattle.search.proofs.JoinShows.{confOf, letOf, Inv, listOf, Shows, Turns, closes, goes-on, meets}
 use Rattle.search.proofs.JoinSought.{Tries, at-end, at-out, at-none, at-stop}

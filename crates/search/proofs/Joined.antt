@@ -25,8 +25,11 @@ use Rattle.walk.specs.List.{listWalk, listIn}
 use Rattle.walk.proofs.Fit.{both-true}
 use Rattle.walk.proofs.Array.{length-stack}
 use Rattle.walk.proofs.List.{Settled, settle-twice}
-use Rattle.machine.specs.Run.{Left}
-use Rattle.search.specs.Labels.{realCodes, labels}
+use Rattle.machine.specs.Recorded.{Left}
+use Rattle.tries.specs.Labels.{realCodes, labels}
+use Rattle.tries.proofs.Codes.{isNext, among-code, labels-coded}
+use Rattle.tries.proofs.Along.{Sane}
+use Rattle.tries.proofs.Judging.{Judging}
 use Rattle.search.specs.Place.{settled}
 use Rattle.search.specs.Answer.{listed, refusedListing, roomFor}
 use Rattle.search.specs.Enter.{inBounds, controlAt, climb, enterOn}
@@ -37,10 +40,8 @@ use Rattle.search.specs.declared.place.Place.{Place}
 use Rattle.search.specs.declared.answer.Kind.{Kind}
 use Rattle.search.specs.declared.answer.Kind.the-variants.{Found}
 use Rattle.search.specs.declared.enter.Entered.{Entered}
-use Rattle.search.proofs.Codes.{isNext, among-code, labels-coded}
-use Rattle.search.proofs.Along.{Sane}
 use Rattle.search.proofs.JoinPlace.{settle-is}
-use Rattle.search.proofs.JoinStand.{Judging, Quiet, there, stands-from}
+use Rattle.search.proofs.JoinStand.{Quiet, there, stands-from}
 use Rattle.search.proofs.JoinShows.{Inv, listOf, Shows}
 use Rattle.search.proofs.JoinWalk.{walk-join}
 use Rattle.search.proofs.JoinEnter.{deeps-long, Entry, Enters, enter-join, entry-parts, entry-tidied}

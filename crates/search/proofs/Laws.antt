@@ -19,7 +19,7 @@ use Rattle.rules.specs.Made.{controlAfter}
 use Rattle.rules.specs.Step.{stepOn}
 use Rattle.rules.specs.declared.event.Happening.{Happening}
 use Rattle.quiet.specs.Quiet.{deepest}
-use Rattle.machine.specs.Run.{Left}
+use Rattle.machine.specs.Recorded.{Left}
 use Rattle.search.specs.Place.{atCode, levelOf, pushed, codeIn, popped, isDone, settleIn, settled}
 use Rattle.law.specs.Rules.{layoutOf}
 use Rattle.search.specs.Enter.{controlAt, Climb, entered, enterStep, enterIn}

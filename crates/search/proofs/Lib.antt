@@ -1,9 +1,8 @@
 -- The search is the walk of crate `walk` over the model's machine. To cite: Searched (what a search answers, refusals too), Promises
 -- (S2 to S5 for calls of the search), Listings and InRoom (the listing, and what stands in its room).
--- On the way there: the codes as a list (Codes), what holds along every schedule (Along), and the program's definitions beside the
--- walk's, one file for each part (Join .., Joined). A turn has to come to what JoinShows says; it tries no code (JoinSought), or one that
--- is refused, found or too long (JoinTried), or one that is entered (JoinLonger); JoinWalk puts turns together. JoinPass and JoinQuiet are
--- for schedules that are passed whole; Blind, that the claim looks at no label.
+-- On the way there: the program's definitions beside the walk's, one file for each part (Join .., Joined). A turn has to come to what
+-- JoinShows says; it tries no code (JoinSought), or one that is refused, found or too long (JoinTried), or one that is entered
+-- (JoinLonger); JoinWalk puts turns together. JoinPass and JoinQuiet are for schedules that are passed whole.
 -- For the functions: one turn of each loop (Laws), configurations in rows (Stacked), a turn over them case by case (OverRows) and what it
 -- comes to (InPlace), and that every turn which leaves the walk going spends of the budget (Falls).
 pub mod Falls
@@ -11,8 +10,6 @@ pub mod Laws
 pub mod Stacked
 pub mod OverRows
 pub mod InPlace
-pub mod Codes
-pub mod Along
 pub mod JoinPlace
 pub mod JoinStand
 pub mod JoinRoom
@@ -25,10 +22,8 @@ pub mod JoinLonger
 pub mod JoinWalk
 pub mod JoinEnter
 pub mod Joined
-pub mod JoinJudge
 pub mod JoinQuiet
 pub mod Searched
-pub mod Blind
 pub mod Promises
 pub mod Listings
 pub mod InRoom

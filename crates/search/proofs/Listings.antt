@@ -24,7 +24,9 @@ use Rattle.walk.proofs.Array.{Ok}
 use Rattle.walk.proofs.Gather.{Counted}
 use Rattle.walk.proofs.Loop.{Clean}
 use Rattle.walk.proofs.ListPasses.{list-passes, list-ok, list-clean, list-short, never-full, all-same, all-on, lists-all, lists-enough, lists-part}
-use Rattle.search.specs.Labels.{labels}
+use Rattle.tries.specs.Labels.{labels}
+use Rattle.tries.proofs.Codes.{labels-coded}
+use Rattle.tries.proofs.Judging.{judging}
 use Rattle.search.specs.Place.{startPlace}
 use Rattle.search.specs.Answer.{refusedListing, roomFor}
 use Rattle.search.specs.Search.{boundFits, listingOn}
@@ -32,9 +34,7 @@ use Rattle.search.specs.Shown.{placeAt, padded, tidied, fitsOn, kindOf, 
 use Rattle.search.specs.declared.place.Place.{Place}
 use Rattle.search.specs.declared.answer.Kind.the-variants.{Found}
 use Rattle.search.specs.declared.answer.Listing.{Listing}
-use Rattle.search.proofs.Codes.{labels-coded}
 use Rattle.search.proofs.JoinRoom.{clean-padded}
-use Rattle.search.proofs.JoinJudge.{judging}
 use Rattle.search.proofs.JoinQuiet.{quiet-along}
 use Rattle.search.proofs.Joined.{bound-parts, listing-refused, listing-is}
 use Rattle.search.proofs.Searched.{same-place, short, tidied-ok}

@@ -35,13 +35,13 @@ use Rattle.walk.proofs.Member.{mem-all-bad}
 use Rattle.law.specs.Rules.{stepR}
 use Rattle.law.specs.Machines.{rules, Stand}
 use Rattle.law.proofs.Search.{labels-follow-rules, tries-are-rules, bad-are-rules}
-use Rattle.search.specs.Labels.{realCodes, judgeOf, tryCode, labels, limited, unlimited}
+use Rattle.tries.specs.Labels.{realCodes, judgeOf, tryCode, labels, limited, unlimited}
+use Rattle.tries.proofs.Codes.{not-code, labels-coded}
+use Rattle.tries.proofs.Blind.{claim-blind}
 use Rattle.search.specs.Place.{startPlace}
 use Rattle.search.specs.Search.{boundFits}
 use Rattle.search.specs.Shown.{callOn, placeSeen, GoodPlace, GoodBudget, Arrays}
 use Rattle.search.specs.declared.place.Place.{Place}
-use Rattle.search.proofs.Codes.{not-code, labels-coded}
-use Rattle.search.proofs.Blind.{claim-blind}
 use Rattle.search.proofs.Joined.{bound-parts}
 use Rattle.search.proofs.Searched.{answers}
 

@@ -22,17 +22,17 @@ use Rattle.walk.proofs.Fit.{fits-parts}
 use Rattle.walk.proofs.Array.{length-stack, Ok, program}
 use Rattle.walk.proofs.List.{list-one}
 use Rattle.walk.proofs.ListPasses.{found-short}
-use Rattle.search.specs.Labels.{labels}
+use Rattle.tries.specs.Labels.{labels}
+use Rattle.tries.proofs.Codes.{labels-coded}
+use Rattle.tries.proofs.Judging.{judging}
 use Rattle.search.specs.Answer.{refusedListing, roomFor, answerOf}
 use Rattle.search.specs.Search.{boundFits, listingOn, searchOn}
 use Rattle.search.specs.Shown.{placeAt, padded, tidied, fitsOn, wordPut, wordsPut, listingShown, answerBy, answerShown, refusedAnswer, replyOf}
 use Rattle.search.specs.Shown.{callOn, placeSeen, GoodPlace, GoodBudget, Arrays}
 use Rattle.search.specs.declared.place.Place.{Place}
 use Rattle.search.specs.declared.answer.Answer.{Answer}
-use Rattle.search.proofs.Codes.{labels-coded}
 use Rattle.search.proofs.InRoom.{padded-long}
 use Rattle.search.proofs.JoinEnter.{stack-same}
-use Rattle.search.proofs.JoinJudge.{judging}
 use Rattle.search.proofs.JoinQuiet.{quiet-along}
 use Rattle.search.proofs.Joined.{bound-parts, listing-refused, listing-is}
 

@@ -18,7 +18,7 @@ use Rattle.rules.specs.declared.inner.Reply.the-variants.{Refused, Permitted}
 use Rattle.rules.specs.declared.inner.Stepped.{Stepped}
 use Rattle.law.specs.Rules.{layoutOf}
 use Rattle.machine.specs.Judge.{breaksOn}
-use Rattle.machine.specs.Run.{Left, left}
+use Rattle.machine.specs.Recorded.{Left, left}
 use Rattle.search.specs.Place.{startPlace, atCode, levelOf, codeIn, pushed}
 use Rattle.search.specs.declared.place.Place.{Place}
 use Rattle.search.specs.declared.enter.Entered.{Entered}

@@ -1,6 +1,5 @@
--- Labels: the machine that the search walks through. Place to Search: what the contracts of this crate cite, beside document 01,
--- section 'The search', in the code's own order; Ahead: the same over rows. Shown: what the walk of crate `walk` gives, as answers of this crate.
-pub mod Labels
+-- Place to Search: what the contracts of this crate cite, beside document 01, section 'The search', in the code's own order; Ahead: the
+-- same over rows. Shown: what the walk of crate `walk` gives, as answers of this crate.
 pub mod Place
 pub mod Answer
 pub mod Rows

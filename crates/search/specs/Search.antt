@@ -15,7 +15,7 @@ use Rattle.rules.specs.declared.event.Happening.{Happening}
 use Rattle.audit.specs.Models.{soundModel}
 use Rattle.quiet.specs.Quiet.{deepest, allFit, allNear, calm, shallow, outlineOf}
 use Rattle.quiet.specs.declared.quiet.Outline.{Outline}
-use Rattle.machine.specs.Run.{Left}
+use Rattle.machine.specs.Recorded.{Left}
 use Rattle.search.specs.Place.{levelOf, pushed, settled}
 use Rattle.search.specs.Answer.{listed, refusedListing, roomFor, answerOf}
 use Rattle.law.specs.Rules.{layoutOf}

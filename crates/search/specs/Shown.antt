@@ -16,9 +16,9 @@ use Rattle.walk.specs.Place as P
 use Rattle.walk.specs.Array.{Spot, view}
 use Rattle.walk.specs.List.{Close, full, spent, done, Listed}
 use Rattle.audit.specs.Whole as W
+use Rattle.tries.specs.Labels.{labels}
 use Rattle.search.specs.Place.{place, startPlace}
 use Rattle.search.specs.Answer.{listed}
-use Rattle.search.specs.Labels.{labels}
 use Rattle.search.specs.Search.{searchOn}
 use Rattle.search.specs.declared.place.Place.{Place}
 use Rattle.search.specs.declared.answer.Kind.{Kind}

@@ -18,7 +18,7 @@ use state::code::is_code;
 use state::control::Control;
 ghost use mathlib.Core.Path.{_≡_};
 ghost use Rattle.terms.specs.Base.{held};
-ghost use Rattle.machine.specs.Run.{left};
+ghost use Rattle.machine.specs.Recorded.{left};
 ghost use Rattle.search.specs.Enter.{inBounds, wentOn, enterOn};
 
 // Whether the place is good, the configurations on the way, and the place itself, zero past its length.

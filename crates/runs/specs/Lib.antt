@@ -1,0 +1,3 @@
+-- What the contracts of this crate cite, beside document 01, section 'Turned down'. To be read in this order.
+pub mod Run
+pub mod Fold

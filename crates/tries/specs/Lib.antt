@@ -1,0 +1,2 @@
+-- Labels: the machine that a search walks through.
+pub mod Labels
