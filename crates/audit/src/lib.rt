@@ -6,6 +6,8 @@
 //   claims     the claim
 //   models     the soundness of a model
 //   controls   the soundness of a configuration
+#![tactic(auto)]
+
 pub mod claims;
 pub mod controls;
 pub mod listed;

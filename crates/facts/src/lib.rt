@@ -1,1 +1,2 @@
 // Theory only: the worked facts of the scope document, proved together. There is no function here.
+#![tactic(auto)]

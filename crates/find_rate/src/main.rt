@@ -1,5 +1,7 @@
 // Two million lookups in a table of 300 terms, the first places and the last alike, for benchmarks/find.sh to time.
 // What it writes is the number of lookups that found their term.
+#![tactic(auto)]
+
 ghost use Rattle.std.specs.Prelude.{◌≤◌};
 
 use libc::STDOUT_FILENO;

@@ -6,6 +6,8 @@
 //   goal    a last G line: bound and budget
 //   codes   the R lines at the end: one code each
 //   put     words and decimals into a lent output buffer
+#![tactic(auto)]
+
 pub mod codes;
 pub mod field;
 pub mod goal;

@@ -1,4 +1,6 @@
 // The list program: reads a model and a last G line, and writes every bad schedule up to the bound, within the budget.
+#![tactic(auto)]
+
 use libc::{STDERR_FILENO, STDIN_FILENO, STDOUT_FILENO};
 use lines::field::front_of;
 use lines::goal::{Goal, last_goal};

@@ -2,5 +2,7 @@
 //
 //   records   Model and its records, each as one exact number, so that their arrays can be lent
 //   fields    which ops use loc, x and y, and where a location must be of one kind
+#![tactic(auto)]
+
 pub mod fields;
 pub mod records;

@@ -7,7 +7,7 @@ use terms::line::bit;
 
 // A whole model. The two large arrays are lent to the inner functions; the records are packed numbers, so that they
 // can be lent too, and are read by action_at, machine_at, location_at and thread_at.
-#[derive(Drop)]
+#[derive(Clone, Copy)]
 pub struct Model {
     // 1 for the rules of document 01
     pub edition: u8,
@@ -31,7 +31,7 @@ pub struct Model {
     pub claim: Claim,
 }
 
-#[derive(Drop)]
+#[derive(Clone, Copy)]
 pub struct Action {
     pub op: u8,
     pub loc: u16,
@@ -39,21 +39,21 @@ pub struct Action {
     pub y: u16,
 }
 
-#[derive(Drop)]
+#[derive(Clone, Copy)]
 pub struct Machine {
     pub boot: u8,
     pub launch: u8,
     pub protected: bool,
 }
 
-#[derive(Drop)]
+#[derive(Clone, Copy)]
 pub struct Location {
     pub machine: u8,
     pub kind: u8,
     pub value: u16,
 }
 
-#[derive(Drop)]
+#[derive(Clone, Copy)]
 pub struct Listed {
     pub agent: u16,
     pub machine: u8,
@@ -61,7 +61,7 @@ pub struct Listed {
 }
 
 // Kind 0 (boot) or 1 (launch), a program, a machine, and a path of 1 to 4 programs; places past it are 0.
-#[derive(Drop)]
+#[derive(Clone, Copy)]
 pub struct Claim {
     pub kind: u8,
     pub program: u8,

@@ -4,6 +4,8 @@
 //   lister      a listing, page by page
 //   answers     the codes that a run reads, and its lines
 //   runner      a run on one page
+#![tactic(auto)]
+
 pub mod answers;
 pub mod lister;
 pub mod runner;

@@ -5,6 +5,8 @@
 //   ends     nobody stands before the last action of the claim's program
 //   depths   how deep terms are, and operands can become
 //   quiet    both together: the tests by which all codes are passed
+#![tactic(auto)]
+
 pub mod depths;
 pub mod ends;
 pub mod quiet;

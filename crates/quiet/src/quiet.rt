@@ -8,7 +8,7 @@ use crate::ends::nobody_stands;
 use terms::term::Term;
 
 // The outline of a model: the claim's program, how many terms are listed, and how deep the deepest of them is.
-#[derive(Drop)]
+#[derive(Clone, Copy)]
 pub struct Outline {
     pub program: u8,
     pub count: u16,

@@ -6,7 +6,7 @@ ghost use Rattle.reader.specs.Drafts.{no_claim, fresh_draft, lined, follows_grou
 use model::records::Claim;
 use terms::table::Table;
 
-#[derive(Drop)]
+#[derive(Clone, Copy)]
 pub struct Draft {
     // the group of the last line: 0 before the first, then 1 to 7 for V, E, A, M, L, T, C
     pub group: u8,

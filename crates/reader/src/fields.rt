@@ -7,7 +7,7 @@ use lines::codes::Code;
 use lines::field::{Field, byte_at, read_field, rest_of};
 
 // The numbers in their order; the places past the count are 0. A line of bad form has no good numbers.
-#[derive(Drop)]
+#[derive(Clone, Copy)]
 pub struct Fields {
     pub good: bool,
     pub count: u8,

@@ -7,6 +7,8 @@
 //   first    the first reading, line after line
 //   second   the second reading: what only later lines tell
 //   built    the model
+#![tactic(auto)]
+
 ghost use Rattle.std.specs.Prelude.{◌≡◌};
 ghost use Rattle.reader.specs.SecondReading.{second_reading};
 ghost use Rattle.reader.specs.Load.{refused_with, load_second, load_of};

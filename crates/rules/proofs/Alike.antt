@@ -88,9 +88,9 @@ module _ {A B : Type 0} (P : A → B → Type 0) where
     unfolding cleared
     each_cleared i e = pick_list (ltb i 12) (each_filled 16 (place_of i 0) z e) e
 
-    bound_by : {v : A} {w : B} (op : ℕ) → P v w → P (bound_by none₁ op v) (bound_by none₂ op w)
+    bound_by_lem : {v : A} {w : B} (op : ℕ) → P v w → P (bound_by none₁ op v) (bound_by none₂ op w)
     unfolding bound_by
-    bound_by op p = pick_one (eqb op 2) z p
+    bound_by_lem op p = pick_one (eqb op 2) z p
 
     pub each_bound : {l : List A} {r : List B} {v : A} {w : B} (lengths : List ℕ) (i : ℕ) (q : Slot) → Each P l r → P v w
         → Each P (bound none₁ lengths l i q v) (bound none₂ lengths r i q w)
@@ -142,7 +142,7 @@ module _ {A B : Type 0} (P : A → B → Type 0) where
       acted_alike i k a = record {
         frame = refl;
         values = each_stored a e p q;
-        vars = each_bound g.lengths i k h (bound_by a.op q);
+        vars = each_bound g.lengths i k h (bound_by_lem a.op q);
       }
 
       launched_alike : (i : ℕ) (k : Slot) → Alike (launched_on none₁ dinit₁ g.machines g.locations on_labels i k) (launched_on none₂ dinit₂ g.machines g.locations on_terms_lem i k)

@@ -7,6 +7,8 @@
 //   event        the event of a step, and its record as flat numbers
 //   happened     the event of a step whose work is done
 //   inner        one step of a sound configuration
+#![tactic(auto)]
+
 pub mod effect;
 pub mod event;
 pub mod happened;

@@ -18,7 +18,7 @@ use terms::table::{Outcome, cut};
 use terms::term::Term;
 
 // The labels of ground x, y and of the result, the program of a jump, and the terms then in the table.
-#[derive(Drop)]
+#[derive(Clone, Copy)]
 pub struct Labels {
     pub x: u16,
     pub y: u16,

@@ -1,5 +1,7 @@
 // The run program: reads a model and the R lines at the end, makes their steps from the fresh configuration, and writes
 // what came of each.
+#![tactic(auto)]
+
 use libc::{STDERR_FILENO, STDIN_FILENO, STDOUT_FILENO};
 use lines::codes::{Codes, last_codes};
 use lines::field::{front_of, rest_of};

@@ -5,7 +5,7 @@ ghost use Rattle.search.specs.Answer.{refused_listing, room_for, schedule_put};
 
 use crate::place::Place;
 
-#[derive(Drop)]
+#[derive(Clone, Copy)]
 pub enum Kind {
     Found,
     Stop,

@@ -7,6 +7,8 @@
 //   ahead    one turn over the rows of all shorter schedules, and the longer schedule that it enters
 //   enter    a place entered by making the steps of its schedule
 //   search   the first bad schedule from a place; the bad schedules from a place, as many as lent room takes
+#![tactic(auto)]
+
 pub mod ahead;
 pub mod answer;
 pub mod enter;

@@ -4,7 +4,7 @@ ghost use Rattle.search.specs.Place.{start_place, at_code, Level, code_in, pushe
 
 use state::code::{Code, code_after};
 
-#[derive(Drop)]
+#[derive(Clone, Copy)]
 pub struct Place {
     pub codes: [u8; 24],
     pub length: u8,

@@ -19,7 +19,7 @@ use terms::table::cut;
 
 // The place, always one with a code left or the end; budget left; tries refused for size; schedules found; terms in the
 // table as the last try left it; whether the walk goes on, and what it answers where it does not.
-#[derive(Drop)]
+#[derive(Clone, Copy)]
 pub struct Walk {
     pub place: Place,
     pub left: u32,
@@ -31,7 +31,7 @@ pub struct Walk {
 }
 
 // A turn's outcome: the walk after it, and the step to make where a longer schedule is entered.
-#[derive(Drop)]
+#[derive(Clone, Copy)]
 pub struct Turned {
     pub walk: Walk,
     pub enters: bool,
@@ -40,7 +40,7 @@ pub struct Turned {
 }
 
 // What is fixed of a search beside its model's tables.
-#[derive(Drop)]
+#[derive(Clone, Copy)]
 pub struct Task {
     pub claim: Claim,
     pub machines: u8,

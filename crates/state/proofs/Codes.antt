@@ -157,6 +157,7 @@ first_one g w (later p (later q (later r (here s t)))) = absurd (omega (arith, t
 first_one g w (later p (later q (later r (later s (here t u))))) = absurd (omega (arith, u))
 first_one g w (later p (later q (later r (later s (later t (here u v)))))) = absurd (omega (arith, v))
 first_one g w (later p (later q (later r (later s (later t (later u (here v x))))))) = absurd (omega (arith, x))
+first_one g w (later p (later q (later r (later s (later t (later u (later v x))))))) = elim x [ ]
 
 one_is : (g : Sight) (c : ℕ) → is_code c ≡ false → early_of g c ≡ 1
 unfolding early_of refusal_of

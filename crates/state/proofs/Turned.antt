@@ -26,7 +26,7 @@ is_first : (rs : List Reason) (n : ℕ) → 0 < n → first_of rs ≡ n → Firs
 is_first [] n h e = absurd (omega (arith, e))
 is_first (r ∷ rs) n h e = first_by_lem r.holds r rs n refl (λ d. is_first rs n h d) e
 
-first_is : {rs : List Reason} {n : ℕ} → FirstIs n rs → first_of rs ≡ n
+first_is : {n : ℕ} {rs : List Reason} → FirstIs n rs → first_of rs ≡ n
 first_is (here p q) = rw p q
 first_is (later p f) = rw p (first_is f)
 

@@ -6,7 +6,7 @@ ghost use Rattle.state.specs.Control.{fresh_slot, fresh_slots, first_value, firs
 use crate::slot::{Slot, pack_slot};
 use model::records::{Model, location_at, thread_at};
 
-#[derive(Drop)]
+#[derive(Clone, Copy)]
 pub struct Frame {
     pub slots: [u64; 12],
     pub locks: [u32; 32],
@@ -16,7 +16,7 @@ pub struct Frame {
     pub nonce: u16,
 }
 
-#[derive(Drop)]
+#[derive(Clone, Copy)]
 pub struct Control {
     pub frame: Frame,
     pub values: [u16; 32],

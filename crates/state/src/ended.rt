@@ -7,7 +7,7 @@ use crate::moves::is_last;
 use crate::slot::Slot;
 
 // The sender's program first.
-#[derive(Drop)]
+#[derive(Clone, Copy)]
 pub enum Ended {
     Nobody,
     One(u8),

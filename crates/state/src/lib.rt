@@ -9,6 +9,8 @@
 //   moves           what an action does to its thread and to locks
 //   launch, reset   what late launch and reset do to threads and locks
 //   ended           the programs of threads that ended
+#![tactic(auto)]
+
 pub mod code;
 pub mod control;
 pub mod early;

@@ -5,7 +5,7 @@ ghost use Rattle.state.specs.Lock.{pack_lock, lock_in, lock_at, held_by, bars_to
 
 use terms::line::bit;
 
-#[derive(Drop)]
+#[derive(Clone, Copy)]
 pub struct Lock {
     pub held: bool,
     pub serial: u16,

@@ -5,7 +5,7 @@ ghost use Rattle.state.specs.Slot.{pack_slot, slot_in, slot_at, Lowest};
 
 use terms::line::bit;
 
-#[derive(Drop)]
+#[derive(Clone, Copy)]
 pub struct Slot {
     pub live: bool,
     pub serial: u16,

@@ -1,6 +1,8 @@
 // Two million tries of one step, each from the same configuration, for benchmarks/step.sh to time. The byte read says
 // which: 0 a code that is refused, 1 a reset, 2 a new, 3 the hash of a pair of two variables. What it writes is the
 // number of tries that were permitted.
+#![tactic(auto)]
+
 ghost use Rattle.std.specs.Prelude.{◌≤◌};
 
 use libc::{STDIN_FILENO, STDOUT_FILENO};

@@ -8,6 +8,8 @@
 //   entry   a term entered as such an answer
 //   subst   a thread's values put for variables, down the parts of a term
 //   sound   the soundness of a table, for every array of numbers
+#![tactic(auto)]
+
 pub mod entry;
 pub mod grade;
 pub mod line;

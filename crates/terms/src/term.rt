@@ -4,7 +4,7 @@ ghost use Rattle.std.specs.Prelude.{◌≡◌};
 ghost use Rattle.terms.specs.Base.{also, larger_of};
 ghost use Rattle.terms.specs.Term.{shape_of, in_limits, parts_below, after_parts};
 
-#[derive(Drop)]
+#[derive(Clone, Copy)]
 pub struct Term {
     pub kind: u8,
     pub a: u16,

@@ -8,7 +8,7 @@ use rules::event::{Record, number_at};
 
 // op (19 jump, 20 launch, 21 reset, 22 hand-over), the mover's serial, loc, x, y, result, the program of a jump, the
 // machine, the other thread, the number of endings, and their programs: the numbers of a record, each under its name.
-#[derive(Drop)]
+#[derive(Clone, Copy)]
 pub struct Event {
     pub op: u16,
     pub serial: u16,

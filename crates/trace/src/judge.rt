@@ -8,7 +8,7 @@ use model::records::Claim;
 
 // How many events are to be judged, the thread's serial, how far along the path it is, and whether an accept of the
 // claim's program was met: what comes after that isn't earlier.
-#[derive(Drop)]
+#[derive(Clone, Copy)]
 pub struct Judge {
     pub claim: Claim,
     pub upto: usize,

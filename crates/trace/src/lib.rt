@@ -5,6 +5,8 @@
 //   judge     one thread followed along the claim's path
 //   verdict   the claim judged over the events of a lent table
 //   claim     the records of a run judged so: what other crates call
+#![tactic(auto)]
+
 pub mod claim;
 pub mod event;
 pub mod judge;

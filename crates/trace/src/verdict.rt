@@ -11,7 +11,7 @@ use state::control::one_more;
 
 // What is known after the events seen so far: an accept of the claim's program was met, some thread made for the claim
 // has walked the path.
-#[derive(Drop)]
+#[derive(Clone, Copy)]
 pub struct Verdict {
     pub claim: Claim,
     pub upto: usize,

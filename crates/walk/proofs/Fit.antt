@@ -16,7 +16,6 @@ use Rattle.walk.specs.Trail.{Mark, plain, sized, bad, mark_of}
 use Rattle.walk.specs.Place.{Place, Next, over, pair, from, settle, place_of, next_in, at, unbroken, fits}
 use Rattle.walk.specs.Walk.{after, turn, walk, search}
 use Rattle.walk.proofs.Codes.{from_mem, from_zero, mem_among}
-use Rattle.walk.proofs.Pass
 
 -- the parts of `fits`
 pub record Fit (M : Machine) (n : ℕ) (p : Place) : Type 0 where

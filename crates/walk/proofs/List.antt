@@ -261,6 +261,8 @@ turn_stays : (M : Machine) (n b : ℕ) (q : Spot) (r t z : ℕ) (o : Outcome M.C
     list_walk M b n (settled_in M q.codes q.len (from (suc q.next) M.codes)) (suc r) (suc t) z
 unfolding after_in
 turn_stays M n b q r t z refused no_step = refl
+turn_stays M n b q r t z too_big x = elim x [ ]
+turn_stays M n b q r t z breaks x = elim x [ ]
 turn_stays M n b q r t z (goes d) (too_long h) = rw (le-ltb (suc q.len) n h)
 
 -- a piece of the codes left, all such, is passed together

@@ -46,7 +46,10 @@ module _ (M : Machine) (C : Coded M) (n : ℕ) where
   here_cons : (up : List ℕ) (k : ℕ) (ks : List ℕ) →
       here M n up (k ∷ ks) ≡ unders up (try_of M (at M up) k) ∷ (below M n up k (M.try (at M up) k) ++ here M n up ks)
   unfolding here below
-  here_cons up k ks = rw map-append
+  here_cons up k ks =
+      ap {B = List Try} (λ r. unders up (try_of M (at M up) k) ∷ r)
+      (map-append (unders up) (map (under k) (entered (trails M (n - suc (length up))) (M.try (at M up) k)))
+      (across M (trails M (n - suc (length up))) (at M up) ks))
 
   trail_cons : (up : List ℕ) (k : ℕ) (ks : List ℕ) →
       trail M n up (k ∷ ks) ≡ unders up (try_of M (at M up) k) ∷ (below M n up k (M.try (at M up) k) ++ trail M n up ks)

@@ -1,0 +1,35 @@
+use Prim.Native.Nat.{◌-◌}
+use mathlib.Core.Path.{refl, ◌≡◌}
+use lib.Dec.{ltb}
+use lib.ListN.{get_or}
+use borrow.Author.Tests.{not-true, not-false}
+use borrow.Author.Rules.{rules}
+use Rattle.audit.specs.Configuration.{locks_sound, lock_sound}
+use Rattle.terms.specs.Each.{all_from}
+use Rattle.terms.proofs.Each.{all_more, all_end}
+use Rattle.audit.proofs.controls.locks_sound.Goals as goal
+
+pub loop-i-init : goal.loop-i-init
+unfolding locks_sound
+loop-i-init c = refl
+
+pub returns-then-not-lock_sound : goal.returns-then-not-lock_sound
+returns-then-not-lock_sound c =
+    rw (
+      c.loop-i.invariant,
+      all_more _ c.loop-i.i _ c.loop-i-test.true,
+      ← c.lock_sound.ensures,
+      c.if-not-lock_sound.true,
+    )
+
+pub loop-i-preserved : goal.loop-i-preserved
+loop-i-preserved c =
+    rw (
+      c.loop-i.invariant,
+      all_more _ c.loop-i.i _ c.loop-i-test.true,
+      ← c.lock_sound.ensures,
+      c.if-not-lock_sound.false,
+    )
+
+pub returns : goal.returns
+returns c = rw (c.loop-i.invariant, all_end _ c.loop-i.i _ c.loop-i-test.false)

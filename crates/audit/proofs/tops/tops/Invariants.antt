@@ -1,0 +1,14 @@
+-- `audit::tops::tops` meets its contract: the loop keeps that the tops of all labels are those of the labels from i
+-- on, put into what is known. The measure is the labels left.
+use Prim.Native.Nat.{◌-◌}
+use mathlib.Core.Path.{refl, ◌≡◌}
+use borrow.Author.Rules.{rules}
+use Rattle.audit.specs.Tops.{tops_of, tops_from}
+use Rattle.audit.proofs.Laws.{tops_more, tops_end}
+use Rattle.audit.proofs.tops.tops.Given as goal
+
+abbrev pub invariant-loop-i : goal.invariant-loop-i
+invariant-loop-i l = tops_of l.t ≡ tops_from (512 - l.i) l.i l.t l.out
+
+abbrev pub decreases-loop-i : goal.decreases-loop-i
+decreases-loop-i l = 512 - l.i

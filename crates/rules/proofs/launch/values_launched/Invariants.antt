@@ -1,0 +1,20 @@
+-- `rules::launch::values_launched` meets its contract: the loop keeps that the whole is what stands already and what
+-- is still to come. The measure is the values left.
+use Prim.Native.Nat.{◌-◌, ◌≤◌}
+use mathlib.Core.List.{◌++◌}
+use mathlib.Core.Path.{◌≡◌, refl, sym, ◌∙◌}
+use native.Mathlib.Omega.{arith}
+use lib.ListN.{length, take, drop}
+use borrow.Author.Rules.{rules}
+use Rattle.state.specs.Each.{each2}
+use Rattle.rules.specs.Restart.{value_launched, values_launched}
+use Rattle.state.proofs.Loops.{each_more, each_end}
+use Rattle.rules.proofs.launch.values_launched.Given as goal
+
+abbrev pub invariant-loop-i : goal.invariant-loop-i
+invariant-loop-i l =
+    (values_launched 2 l.initial.values l.locations l.m ≡ take l.i l.values ++ each2 (value_launched 2 l.m) (drop l.i l.values) (drop l.i l.locations))
+    × (length l.values ≡ 32) × (l.i ≤ 32)
+
+abbrev pub decreases-loop-i : goal.decreases-loop-i
+decreases-loop-i l = 32 - l.i

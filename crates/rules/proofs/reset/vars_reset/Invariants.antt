@@ -1,0 +1,16 @@
+-- `rules::reset::vars_reset` meets its contract: the loop keeps that the whole is what stands already and what is
+-- still to come. The measure is the slots left.
+use Prim.Native.Nat.{◌-◌, ◌*◌, ◌≤◌}
+use mathlib.Core.Path.{◌≡◌, refl, sym, ap, ◌∙◌}
+use native.Mathlib.Omega.{arith}
+use lib.ListN.{length}
+use borrow.Author.Rules.{rules}
+use Rattle.rules.specs.Restart.{var_reset, vars_reset}
+use Rattle.rules.proofs.Loops.{slot_end, up_to, cleared_more, cleared_long}
+use Rattle.rules.proofs.reset.vars_reset.Given as goal
+
+abbrev pub invariant-loop-i : goal.invariant-loop-i
+invariant-loop-i l = (vars_reset 0 l.initial.vars l.slots l.m ≡ up_to (var_reset 0 l.m) l.slots l.vars (l.i * 16)) × (length l.vars ≡ 192) × (l.i ≤ 12)
+
+abbrev pub decreases-loop-i : goal.decreases-loop-i
+decreases-loop-i l = 12 - l.i

@@ -1,0 +1,8 @@
+-- `state::moves::jumped` meets its contract: one call of `pack_slot`.
+use borrow.Author.Rules.{rules}
+use Rattle.state.specs.Moves.{jumped_to}
+use Rattle.state.proofs.moves.jumped.Goals as goal
+
+pub returns : goal.returns
+unfolding jumped_to
+returns c = rw (← c.pack_slot.ensures)

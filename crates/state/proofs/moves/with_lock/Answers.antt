@@ -1,0 +1,13 @@
+-- `state::moves::with_lock` meets its contract: the range test of the definition.
+use borrow.Author.Rules.{rules}
+use borrow.Author.Tests.{le-ltb, lt-ltb}
+use Rattle.state.specs.Moves.{with_at}
+use Rattle.state.proofs.moves.with_lock.Goals as goal
+
+pub returns-then-i-lt32 : goal.returns-then-i-lt32
+unfolding with_at
+returns-then-i-lt32 c = rw (lt-ltb _ _ c.if-i-lt32.true)
+
+pub returns-else-i-lt32 : goal.returns-else-i-lt32
+unfolding with_at
+returns-else-i-lt32 c = rw (le-ltb _ _ c.if-i-lt32.false)

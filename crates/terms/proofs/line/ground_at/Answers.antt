@@ -1,0 +1,6 @@
+-- `terms::line::ground_at` meets its contract: the line at the label, read.
+use borrow.Author.Rules.{rules}
+use Rattle.terms.proofs.line.ground_at.Goals as goal
+
+pub returns : goal.returns
+returns c = rw (← c.line_at.ensures, ← c.ground_in.ensures)
