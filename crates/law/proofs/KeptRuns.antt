@@ -36,7 +36,9 @@ pub run_sound : {m : Model} → SoundModel m → Arrays m → {l : List ℕ} {s 
     → All (LeavesSound m) (run_labels m l s ks)
 unfolding run_labels
 run_sound M A C [] = tt
-run_sound M A C (k ∷ ks) = (step_sound M A C k, run_sound M A (step_sound M A C k) ks)
+run_sound {m = m} M A {l = l} {s = s} C (k ∷ ks) =
+    let r = step_on l s (layout_of m) m.machine_count k in
+    (step_sound M A C k, run_sound {m = m} M A {l = r.table} {s = r.out.control} (step_sound M A C k) ks)
 
 -- so all that is reached from the fresh configuration is sound
 pub reached_sound : {m : Model} → SoundModel m → Arrays m → (ks : List ℕ) → All (LeavesSound m) (run_labels m m.lines (fresh_control m) ks)

@@ -1,4 +1,5 @@
 -- `reader::first::one_line` meets its contract: the seven letters, and any other byte.
+use native.Mathlib.Omega.{arith}
 use borrow.Author.Tests.{ne_eqb}
 use borrow.Author.Rules.{rules}
 use Rattle.reader.specs.FirstReading.{one_line}
@@ -37,12 +38,12 @@ unfolding one_line
 returns-in_default c = rw (
       ← c.byte_at-letter.ensures,
       ← c.fields_of-f.ensures,
-      ne_eqb _ _ c.in-86.rest.0.0.0.0.0.0.1,
-      ne_eqb _ _ c.in-86.rest.0.0.0.0.0.1,
-      ne_eqb _ _ c.in-86.rest.0.0.0.0.1,
-      ne_eqb _ _ c.in-86.rest.0.0.0.1,
-      ne_eqb _ _ c.in-86.rest.0.0.1,
-      ne_eqb _ _ c.in-86.rest.0.1,
-      ne_eqb _ _ c.in-86.rest.1,
+      ne_eqb c.byte_at-letter.result 86 (omega arith),
+      ne_eqb c.byte_at-letter.result 69 (omega arith),
+      ne_eqb c.byte_at-letter.result 65 (omega arith),
+      ne_eqb c.byte_at-letter.result 77 (omega arith),
+      ne_eqb c.byte_at-letter.result 76 (omega arith),
+      ne_eqb c.byte_at-letter.result 84 (omega arith),
+      ne_eqb c.byte_at-letter.result 67 (omega arith),
       c.refuse.ensures,
     )
