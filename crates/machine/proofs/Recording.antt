@@ -88,7 +88,7 @@ holds_add {l} {hs} {h} r w = holds_snoc r (subst (λ (x : ℕ). Written l x h) (
 
 pub holds_front : {l : List ℕ} {i : ℕ} (hs gs : List Happening) → HoldsFrom l i (hs ++ gs) → HoldsFrom l i hs
 holds_front [] gs r = none
-holds_front (h ∷ hs) gs (more w r) = more w (holds_front hs gs r)
+holds_front {l = l} {i = i} (h ∷ hs) gs (more w r) = more w (holds_front {i = i + 1} hs gs r)
 
 -- tables with the same numbers below record n hold the same events below n
 module _ (l m : List ℕ) (n : ℕ) (same : (p : ℕ) → p < n * 12 → get_or m p 0 ≡ get_or l p 0) where
