@@ -39,7 +39,7 @@ module _ (m : Model) (S : SoundModel m) where
 
   last_written : {l : List ℕ} {i : ℕ} (hs : List Happening) (h : Happening) → HoldsFrom l i (hs ++ (h ∷ [])) → Written l (i + length hs) h
   last_written {l} {i} [] h (more w r) = subst (λ (j : ℕ). Written l j h) (omega arith) w
-  last_written {l} {i} (g ∷ hs) h (more w r) = subst (λ (j : ℕ). Written l j h) (omega arith) (last_written hs h r)
+  last_written {l} {i} (g ∷ hs) h (more w r) = subst (λ (j : ℕ). Written l j h) (omega arith) (last_written {i = i + 1} hs h r)
 
   pub judging : length m.claim.path ≡ 4 → Judging m
   unfolding record_of

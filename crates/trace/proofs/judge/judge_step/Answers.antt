@@ -1,0 +1,30 @@
+-- `trace::judge::judge_step` meets its contract: closed already, closed by this event, or one step along the path.
+use Rattle.terms.proofs.Laws.{tests}
+use Rattle.trace.specs.Judge.{judge_step}
+use borrow.Author.Rules.{rules}
+use Rattle.trace.proofs.judge.judge_step.Goals as goal
+
+pub returns-then-j : goal.returns-then-j
+unfolding judge_step
+returns-then-j c = search (tests, c.if-j.true)
+
+pub returns-then-accepts : goal.returns-then-accepts
+unfolding judge_step
+returns-then-accepts c =
+    search (
+      tests,
+      c.if-j.false,
+      ← c.accepts.ensures,
+      c.if-accepts.true,
+    )
+
+pub returns : goal.returns
+unfolding judge_step
+returns c =
+    search (
+      tests,
+      c.if-j.false,
+      ← c.accepts.ensures,
+      c.if-accepts.false,
+      ← c.follow-at.ensures,
+    )

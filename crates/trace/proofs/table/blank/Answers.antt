@@ -1,0 +1,6 @@
+-- `trace::table::blank` meets its contract: the same event at every place.
+use borrow.Author.Rules.{rules}
+use Rattle.trace.proofs.table.blank.Goals as goal
+
+pub returns : goal.returns
+returns c = rw c.none-none.ensures
