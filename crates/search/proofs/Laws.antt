@@ -74,13 +74,13 @@ module _ (m : Model) (p : Place) (i : ℕ) (x : Climb) where
       (code_in p.codes i)
       x
 
-  enter_step : (n : ℕ) → 0 < n → enter_in n m p i x ≡ further (λ y. enter_in (n - 1) m p (i + 1) y)
+  enter_step_lem : (n : ℕ) → 0 < n → enter_in n m p i x ≡ further (λ y. enter_in (n - 1) m p (i + 1) y)
   unfolding enter_in
-  enter_step zero h = absurd (omega arith)
-  enter_step (suc n) h = rw sub-one
+  enter_step_lem zero h = absurd (omega arith)
+  enter_step_lem (suc n) h = rw sub-one
 
   pub enter_more : (n : ℕ) → i < n → enter_in (n - i) m p i x ≡ further (λ y. enter_in (n - (i + 1)) m p (i + 1) y)
-  enter_more n h = rw (sub-add-eq, enter_step (n - i) (omega arith))
+  enter_more n h = rw (sub-add-eq, enter_step_lem (n - i) (omega arith))
 
   pub enter_end : (n : ℕ) → n ≤ i → enter_in (n - i) m p i x ≡ entered true (at_code x.place p.next) x
   unfolding enter_in

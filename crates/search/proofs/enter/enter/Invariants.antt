@@ -1,0 +1,20 @@
+-- `search::enter::enter` meets its contract: the loop keeps what entering all steps gives. The measure is the steps
+-- left.
+use Prim.Native.Nat.{◌-◌, ◌≤◌}
+use mathlib.Core.Path.{◌≡◌, refl}
+use native.Mathlib.Nat.{sub-zero}
+use native.Mathlib.Omega.{arith}
+use lib.ListN.{length}
+use borrow.Author.Rules.{rules}
+use borrow.Author.Tests.{not-true, not-false}
+use Rattle.search.specs.Enter.{climb, enter_in, enter_on}
+use Rattle.search.proofs.Laws.{enter_more, enter_end}
+use Rattle.search.proofs.enter.enter.Given as goal
+
+abbrev pub invariant-loop-i : goal.invariant-loop-i
+invariant-loop-i l =
+    (enter_on l.initial.t l.initial.records l.m l.p ≡ enter_in (l.p.length - l.i) l.m l.p l.i (climb l.stack l.place l.t l.records))
+    × (length l.records ≡ length l.initial.records) × (l.p.length ≤ 255)
+
+abbrev pub decreases-loop-i : goal.decreases-loop-i
+decreases-loop-i l = l.p.length - l.i
