@@ -1,0 +1,20 @@
+-- `pages::answers::put_done` meets its contract: five parts one after the other.
+use borrow.Author.Rules.{rules}
+use Rattle.lines.proofs.Puts.{put_then}
+use Rattle.pages.specs.RunText.{done_line}
+use Rattle.pages.proofs.answers.put_done.Goals as goal
+
+pub returns : goal.returns
+unfolding done_line
+returns c =
+    rw (
+      put_then,
+      put_then,
+      put_then,
+      put_then,
+      ← c.put_word-a.ensures,
+      ← c.put_field-b.ensures,
+      ← c.put_field-c.ensures,
+      ← c.put_field-d.ensures,
+      ← c.put_end.ensures,
+    )

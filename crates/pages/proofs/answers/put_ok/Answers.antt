@@ -1,0 +1,22 @@
+-- `pages::answers::put_ok` meets its contract: five parts one after the other.
+use borrow.Author.Rules.{rules}
+use Rattle.lines.proofs.Puts.{put_then}
+use Rattle.pages.specs.RunText.{ok_line}
+use Rattle.pages.proofs.answers.put_ok.Goals as goal
+
+pub returns : goal.returns
+unfolding ok_line
+returns c =
+    rw (
+      put_then,
+      put_then,
+      put_then,
+      put_then,
+      ← c.number_at-op.ensures,
+      ← c.serial_of-serial.ensures,
+      ← c.put_word-a.ensures,
+      ← c.put_field-b.ensures,
+      ← c.put_field-c.ensures,
+      ← c.put_field-d.ensures,
+      ← c.put_end.ensures,
+    )

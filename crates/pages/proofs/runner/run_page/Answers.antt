@@ -1,0 +1,18 @@
+-- `pages::runner::run_page` meets its contract: a run, then its lines and the closing line.
+use borrow.Author.Rules.{rules}
+use Rattle.lines.proofs.Puts.{put_then}
+use Rattle.pages.specs.RunPage.{run_text, run_page_on}
+use Rattle.pages.proofs.runner.run_page.Goals as goal
+
+pub returns : goal.returns
+unfolding run_page_on run_text
+returns c =
+    rw (
+      ← c.fresh-s.ensures,
+      ← c.run-r.ensures,
+      put_then,
+      ← c.put_answers-at.ensures,
+      ← c.all_accepts-accepts.ensures,
+      ← c.judge-broken.ensures,
+      ← c.put_done.ensures,
+    )
