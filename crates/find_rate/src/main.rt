@@ -4,7 +4,7 @@
 
 ghost use Rattle.std.specs.Prelude.{◌≤◌};
 
-use libc::STDOUT_FILENO;
+use std::io;
 use terms::entry::add;
 use terms::table::{Found, Table, find};
 use terms::term::Term;
@@ -28,7 +28,7 @@ fn hits(t: &[u64; 512], count: u16, n: u16) -> u32
     }
 }
 
-fn main() {
+fn main(rt: HostRuntime) -> io::Result<()> {
     let fresh = Table::fresh();
     let mut lines = fresh.lines;
     let mut count = fresh.count;
@@ -40,6 +40,5 @@ fn main() {
     for i in 0..2000000u32 {
         found += hits(&lines, count, (i % 297) as u16);
     }
-    io::print_decimal(STDOUT_FILENO, found as u64);
-    io::write_all(STDOUT_FILENO, b"\n");
+    println!(rt; "{found}")
 }

@@ -1,60 +1,75 @@
 // The list program: reads a model and a last G line, and writes every bad schedule up to the bound, within the budget.
 #![tactic(auto)]
 
-use libc::{STDERR_FILENO, STDIN_FILENO, STDOUT_FILENO};
 use lines::field::front_of;
 use lines::goal::{Goal, last_goal};
 use lines::put::put_refused;
 use model::records::Model;
 use pages::lister::{Stand, list_page};
+use std::io;
+use std::io::Read;
+use std::process::ExitCode;
 
-// Whether all bytes went out.
-fn say(page: &[u8], bytes: usize) -> bool {
-    let done = io::write_all(STDOUT_FILENO, front_of(page, bytes));
-    if !done {
-        io::write_all(STDERR_FILENO, b"list: the output could not be written\n");
-    }
-    done
+fn say(rt: &impl Print, page: &[u8], bytes: usize) -> io::Result<()> {
+    rt.write_all(front_of(page, bytes))
 }
 
-fn say_refused(number: u8, line: u32) {
+fn say_refused(rt: &impl Print, number: u8, line: u32) -> io::Result<()> {
     let mut page = [0u8; 64];
     let n = put_refused(&mut page, 0, number, line);
-    say(&page, n);
+    say(rt, &page, n)
 }
 
 // A page holds 600 schedules: a line has at most 25 numbers of at most ten digits, and so at most 279 bytes.
-fn list_all(m: Model, bound: u8, budget: u32) {
+fn list_all(rt: &impl Print, m: Model, bound: u8, budget: u32) -> io::Result<()> {
     let mut room = [0u8; 15000];
     let mut page = [0u8; 167430];
     let mut s = Stand::start(budget);
     while s.going {
         s = list_page(m, bound, budget, s, &mut room, &mut page);
-        let done = say(&page, s.bytes);
-        if !done {
-            return;
-        }
+        say(rt, &page, s.bytes)?;
     }
+    Ok(())
 }
 
-fn with_model(file: &[u8], bound: u8, budget: u32) {
+fn with_model(rt: &impl Print, file: &[u8], bound: u8, budget: u32) -> io::Result<()> {
     let r = reader::load(file);
     if r.number != 0 {
-        say_refused(r.number, r.line);
-        return;
+        return say_refused(rt, r.number, r.line);
     }
     let m = r.model;
-    list_all(m, bound, budget);
+    list_all(rt, m, bound, budget)
 }
 
-fn main() {
-    let mut buf = [0u8; 65537];
-    let n = io::read_full(STDIN_FILENO, &mut buf);
-    let s = &buf[..n];
+fn answer(rt: &impl Print, s: &[u8]) -> io::Result<()> {
     let g = last_goal(s);
     match g {
-        Goal::Good(at, bound, budget) => with_model(front_of(s, at), bound, budget),
-        Goal::Bad(line) => say_refused(20, line),
-        Goal::Long => say_refused(26, 0),
+        Goal::Good(at, bound, budget) => with_model(rt, front_of(s, at), bound, budget),
+        Goal::Bad(line) => say_refused(rt, 20, line),
+        Goal::Long => say_refused(rt, 26, 0),
+    }
+}
+
+// The input up to 65,537 bytes, of which the last says that it is too long. A closed input (9 is EBADF) is an empty one.
+fn input(rt: &HostRuntime) -> io::Result<Vec<u8>> {
+    let mut s = Vec::new(rt.alloc());
+    match rt.stdin().take(65537).read_to_end(&mut s) {
+        Err(e) if e.raw_os_error() != Some(9) => Err(e),
+        _ => Ok(s),
+    }
+}
+
+fn failed(rt: &impl Eprint, what: &str) -> ExitCode {
+    let _ = eprintln!(rt; "list: {what}");
+    ExitCode::FAILURE
+}
+
+fn main(rt: HostRuntime) -> ExitCode {
+    match input(&rt) {
+        Err(_) => failed(&rt, "the input could not be read"),
+        Ok(s) => match answer(&rt, &s) {
+            Err(_) => failed(&rt, "the output could not be written"),
+            Ok(_) => ExitCode::SUCCESS,
+        },
     }
 }

@@ -2,30 +2,29 @@
 // what came of each.
 #![tactic(auto)]
 
-use libc::{STDERR_FILENO, STDIN_FILENO, STDOUT_FILENO};
 use lines::codes::{Codes, last_codes};
 use lines::field::{front_of, rest_of};
 use lines::put::put_refused;
 use model::records::Model;
 use pages::answers::{first_codes, read_codes};
 use pages::runner::run_page;
+use std::io;
+use std::io::Read;
+use std::process::ExitCode;
 
-fn say(page: &[u8], bytes: usize) {
-    let done = io::write_all(STDOUT_FILENO, front_of(page, bytes));
-    if !done {
-        io::write_all(STDERR_FILENO, b"run: the output could not be written\n");
-    }
+fn say(rt: &impl Print, page: &[u8], bytes: usize) -> io::Result<()> {
+    rt.write_all(front_of(page, bytes))
 }
 
-fn say_refused(number: u8, line: u32) {
+fn say_refused(rt: &impl Print, number: u8, line: u32) -> io::Result<()> {
     let mut page = [0u8; 64];
     let n = put_refused(&mut page, 0, number, line);
-    say(&page, n);
+    say(rt, &page, n)
 }
 
 // An input of 65,536 bytes has at most 16,384 R lines, of four bytes at least. A line of output has at most three numbers
 // of at most ten digits, and so at most 36 bytes; the last one has 38. There is room for 4,096 events of twelve numbers.
-fn run_all(m: Model, rest: &[u8]) {
+fn run_all(rt: &impl Print, m: Model, rest: &[u8]) -> io::Result<()> {
     let mut codes = [0u16; 16384];
     let count = read_codes(rest, &mut codes);
     let mut answers = [0u8; 16384];
@@ -38,27 +37,47 @@ fn run_all(m: Model, rest: &[u8]) {
         &mut records,
         &mut page,
     );
-    say(&page, n);
+    say(rt, &page, n)
 }
 
-fn with_model(file: &[u8], rest: &[u8]) {
+fn with_model(rt: &impl Print, file: &[u8], rest: &[u8]) -> io::Result<()> {
     let r = reader::load(file);
     if r.number != 0 {
-        say_refused(r.number, r.line);
-        return;
+        return say_refused(rt, r.number, r.line);
     }
     let m = r.model;
-    run_all(m, rest);
+    run_all(rt, m, rest)
 }
 
-fn main() {
-    let mut buf = [0u8; 65537];
-    let n = io::read_full(STDIN_FILENO, &mut buf);
-    let s = &buf[..n];
+fn answer(rt: &impl Print, s: &[u8]) -> io::Result<()> {
     let c = last_codes(s);
     match c {
-        Codes::Good(at) => with_model(front_of(s, at), rest_of(s, at)),
-        Codes::Bad(line) => say_refused(20, line),
-        Codes::Long => say_refused(26, 0),
+        Codes::Good(at) => with_model(rt, front_of(s, at), rest_of(s, at)),
+        Codes::Bad(line) => say_refused(rt, 20, line),
+        Codes::Long => say_refused(rt, 26, 0),
+    }
+}
+
+// The input up to 65,537 bytes, of which the last says that it is too long. A closed input (9 is EBADF) is an empty one.
+fn input(rt: &HostRuntime) -> io::Result<Vec<u8>> {
+    let mut s = Vec::new(rt.alloc());
+    match rt.stdin().take(65537).read_to_end(&mut s) {
+        Err(e) if e.raw_os_error() != Some(9) => Err(e),
+        _ => Ok(s),
+    }
+}
+
+fn failed(rt: &impl Eprint, what: &str) -> ExitCode {
+    let _ = eprintln!(rt; "run: {what}");
+    ExitCode::FAILURE
+}
+
+fn main(rt: HostRuntime) -> ExitCode {
+    match input(&rt) {
+        Err(_) => failed(&rt, "the input could not be read"),
+        Ok(s) => match answer(&rt, &s) {
+            Err(_) => failed(&rt, "the output could not be written"),
+            Ok(_) => ExitCode::SUCCESS,
+        },
     }
 }

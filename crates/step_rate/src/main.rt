@@ -5,12 +5,13 @@
 
 ghost use Rattle.std.specs.Prelude.{◌≤◌};
 
-use libc::{STDIN_FILENO, STDOUT_FILENO};
 use model::records::{
     Action, Claim, Listed, Machine, Model, pack_action, pack_machine, pack_thread,
 };
 use rules::inner::{Reply, Stepped, try_step};
 use state::control::Control;
+use std::io;
+use std::io::Read;
 use terms::entry::add;
 use terms::table::{Table, cut};
 use terms::term::Term;
@@ -145,10 +146,9 @@ fn tries(m: Model, code: u16) -> u32 {
     sum
 }
 
-fn main() {
+fn main(rt: HostRuntime) -> io::Result<()> {
     let mut byte = [0u8; 1];
-    io::read_full(STDIN_FILENO, &mut byte);
+    rt.stdin().read(&mut byte)?;
     let sum = tries(model(), code_for(byte[0]));
-    io::print_decimal(STDOUT_FILENO, sum as u64);
-    io::write_all(STDOUT_FILENO, b"\n");
+    println!(rt; "{sum}")
 }
