@@ -11,22 +11,29 @@ find_kit() {
         rt=$(command -v rt) || die "the Rattle kit is not here: put its command 'rt' on PATH, or set RATTLE_HOME to the kit's folder"
         kit=$(cd "$(dirname "$(readlink -f "$rt")")/.." && pwd -P)
     fi
-    tools=$kit/on/$(uname -m)/toolchain
     [ -x "$kit/bin/rt" ] || die "no kit at $kit: put its command 'rt' on PATH, or set RATTLE_HOME to the kit's folder"
-    [ -d "$tools" ] || die "the kit at $kit has nothing for this machine, $(uname -m)"
+    [ "$(uname -m)" = x86_64 ] || die "the kit at $kit has nothing for this machine, $(uname -m)"
 }
 
 # build PROGRAM: proves and builds a program that is missing or older than what it is made of; says which crate is proved.
+# `rt ci` and `rt run` leave it in its crate's out/. `rt run` also runs it, on its file stdin.
 build() {
-    binary=$here/target/bin/$1
-    if [ -f "$binary" ] && [ -z "$(find "$here/crates.txt" "$here/crates" -newer "$binary" -type f 2>/dev/null | head -n 1)" ]; then return; fi
+    folder=$here/crates/$1
+    binary=$folder/out/$1
+    if [ -f "$binary" ] && [ -z "$(find "$here/crates.txt" "$here/crates" -name out -prune -o -type f -newer "$binary" -print 2>/dev/null | head -n 1)" ]; then return; fi
     say "proving and building '$1'; the first time this takes some ten minutes"
     log=$(mktemp) || exit 2
-    (cd "$here" && "$kit/bin/rt" check "$1" 2>&1; echo "status $?") | while IFS= read -r line; do
+    input=$folder/stdin
+    [ -f "$input" ] || input=/dev/null
+    crate=$1
+    (cd "$folder" && "$kit/bin/rt" run <"$input" 2>&1 >/dev/null; echo "status $?") | while IFS= read -r line; do
         printf '%s\n' "$line" >>"$log"
-        case $line in 'rt: '*' proved ('*) say "${line#rt: }" ;; esac
+        case $line in
+            'crate '*': modules '*) crate=${line#crate } ;;
+            'logic=proved '*) say "${crate%%:*} proved" ;;
+        esac
     done
-    if [ "$(tail -n 1 "$log")" != "status 0" ]; then
+    if [ "$(tail -n 1 "$log")" != "status 0" ] || [ ! -f "$binary" ]; then
         sed '$d' "$log" | tail -n 20 >&2
         rm -f "$log"
         die "'$1' was not built: the lines above say what the kit found"
@@ -35,23 +42,5 @@ build() {
     touch "$binary"
 }
 
-# start PROGRAM: programs are for x86-64; the kit's own loader starts them, under its emulator on another processor. What a
-# program says on its error output ends it with status 1.
-start() {
-    emulator=$tools/bin/qemu-x86_64
-    [ -x "$emulator" ] || emulator=
-    said=$(mktemp) || exit 2
-    ${emulator:+"$emulator"} "$tools/lib/ld-linux-x86-64.so.2" --library-path "$tools/lib" "$here/target/bin/$1" 2>"$said"
-    status=$?
-    if [ -s "$said" ]; then
-        cat "$said" >&2
-        [ "$status" != 0 ] || status=1
-    fi
-    rm -f "$said"
-    return "$status"
-}
-
-# Before a figure: on another processor it is the emulator's.
-tell_emulated() {
-    [ "$(uname -m)" = x86_64 ] || echo "on this machine programs run under the kit's emulator, so the figures say nothing of a real one"
-}
+# start PROGRAM: it ends with status 1, and has said why, where it could not read or write.
+start() { "$here/crates/$1/out/$1"; }

@@ -6,7 +6,6 @@ here=$(cd "$(dirname "$0")/.." && pwd -P)
 . "$here/kit.sh"
 find_kit
 build find_rate
-tell_emulated
 best=
 for turn in 1 2 3 4 5; do
     from=$(date +%s%N)

@@ -67,7 +67,6 @@ measure() {
 build_walker
 # Proves and builds the list program, where that is to be done, before any turn is measured.
 cat models/bare.model models/bare.goal | bench_list >/dev/null
-[ -n "${LIST:-}" ] || tell_emulated
 for goal in benchmarks/models/*.goal; do
     measure "$(basename "$goal" .goal)"
 done

@@ -6,7 +6,6 @@ here=$(cd "$(dirname "$0")/.." && pwd -P)
 . "$here/kit.sh"
 find_kit
 build step_rate
-tell_emulated
 # best KIND: nanoseconds of a try, the best of five turns
 best() {
     least=

@@ -8,16 +8,16 @@ for crate in "$@"; do
     [ -d "edits/$crate" ] || { miss "edits/$crate: there is no such folder"; continue; }
     rm -rf "$work/tree"
     mkdir "$work/tree"
-    cp -R crates crates.txt "$work/tree/"
-    [ ! -d target ] || cp -R target "$work/tree/"
+    # Without out/: rt begins with what a check of the same crate kept in this copy of the repository.
+    tar -cf - --exclude=out crates crates.txt | tar -xf - -C "$work/tree"
     rm -rf "$work/tree/crates"/*/must-fail
     cp -R "edits/$crate" "$work/tree/crates/$crate/must-fail"
     (cd "$work/tree" && rt must-fail "$crate") >"$work/log" 2>&1
     for edit in "edits/$crate"/*.edit; do
-        name=$crate/$(basename "$edit" .edit)
-        if grep -q "must-fail $name: refused, as it must be" "$work/log"; then pass; else
+        name=$crate/$(basename "$edit")
+        if grep -qF "must-fail $name: refused, as it must be" "$work/log"; then pass; else
             miss "$name was not refused"
-            tail -n 5 "$work/log"
+            grep -F "must-fail $name: " "$work/log" || tail -n 5 "$work/log"
         fi
     done
 done
