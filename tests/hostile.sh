@@ -68,6 +68,13 @@ if [ -w /dev/full ]; then
     words "run: output on a full disk" "could not be written" 1
 fi
 
+# an input that cannot be read, as a folder, is no empty one
+for program in list run; do
+    limited "$bench" "$program" <"$work" >/dev/null 2>"$work/said"
+    status=$?
+    words "$program: a folder as input" "could not be read" 1
+done
+
 # wrong use of the command
 wrong() {
     name=$1 pattern=$2
