@@ -20,10 +20,15 @@ fn say_refused(rt: &impl Print, number: u8, line: u32) -> io::Result<()> {
     say(rt, &page, n)
 }
 
-// A page holds 600 schedules: a line has at most 25 numbers of at most ten digits, and so at most 279 bytes.
+// A page holds 600 schedules: a line has at most 25 numbers of at most ten digits, and so at most 279 bytes. Made here, so
+// that no proof writes out its zeros.
+fn empty_page() -> [u8; 167430] {
+    [0; 167430]
+}
+
 fn list_all(rt: &impl Print, m: Model, bound: u8, budget: u32) -> io::Result<()> {
     let mut room = [0u8; 15000];
-    let mut page = [0u8; 167430];
+    let mut page = empty_page();
     let mut s = Stand::start(budget);
     while s.going {
         s = list_page(m, bound, budget, s, &mut room, &mut page);

@@ -22,14 +22,20 @@ fn say_refused(rt: &impl Print, number: u8, line: u32) -> io::Result<()> {
     say(rt, &page, n)
 }
 
-// An input of 65,536 bytes has at most 16,384 R lines, of four bytes at least. A line of output has at most three numbers
-// of at most ten digits, and so at most 36 bytes; the last one has 38. There is room for 4,096 events of twelve numbers.
+// A line of output has at most three numbers of at most ten digits, and so at most 36 bytes; the last one has 38. Made
+// here, so that no proof writes out its zeros.
+fn empty_page() -> [u8; 589862] {
+    [0; 589862]
+}
+
+// An input of 65,536 bytes has at most 16,384 R lines, of four bytes at least. There is room for 4,096 events of twelve
+// numbers.
 fn run_all(rt: &impl Print, m: Model, rest: &[u8]) -> io::Result<()> {
     let mut codes = [0u16; 16384];
     let count = read_codes(rest, &mut codes);
     let mut answers = [0u8; 16384];
     let mut records = [0u16; 49152];
-    let mut page = [0u8; 589862];
+    let mut page = empty_page();
     let n = run_page(
         m,
         first_codes(&codes, count),
