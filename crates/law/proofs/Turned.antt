@@ -10,7 +10,7 @@ use lib.ListN.{length}
 use lib.Dec.{eqb, ltb}
 use borrow.Author.Tests.{ltb-true, ltb-false, ne_eqb}
 use Rattle.walk.specs.Base.{All}
-use Rattle.terms.specs.Base.{pick, also, Held}
+use Rattle.terms.specs.Base.{pick, Held}
 use Rattle.terms.specs.Tree.{Tree, nought, deepness, same, enter}
 use Rattle.terms.proofs.Meaning.{also_left, also_right}
 use Rattle.model.specs.declared.records.Action.{Action}

@@ -1,6 +1,5 @@
 -- `audit::claims::claim_sound` meets its contract: the definition's tests, in its order.
 use borrow.Author.Tests.{le-ltb, lt-ltb, lt-leb, le-leb}
-use borrow.Author.Rules.{rules}
 use Rattle.audit.specs.Claims.{claim_sound}
 use Rattle.audit.proofs.claims.claim_sound.Goals as goal
 

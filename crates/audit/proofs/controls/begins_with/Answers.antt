@@ -1,11 +1,5 @@
-use Prim.Native.Nat.{◌-◌}
-use mathlib.Core.Path.{◌≡◌}
 use native.Mathlib.Nat.{sub-zero}
-use lib.Dec.{eqb}
 use borrow.Author.Tests.{ne_eqb, eq-eqb}
-use borrow.Author.Rules.{rules}
-use Rattle.terms.specs.Line.{line_at}
-use Rattle.terms.specs.Each.{all_from}
 use Rattle.audit.specs.Configuration.{begins_with}
 use Rattle.terms.proofs.Each.{all_more, all_end}
 use Rattle.audit.proofs.controls.begins_with.Goals as goal

@@ -1,6 +1,5 @@
 -- `audit::controls::counters_sound` meets its contract: the clauses of the definition in its order.
 use borrow.Author.Tests.{lt-leb, le-leb}
-use borrow.Author.Rules.{rules}
 use Rattle.audit.specs.Configuration.{counters_sound}
 use Rattle.audit.proofs.controls.counters_sound.Goals as goal
 

@@ -1,6 +1,5 @@
 -- `audit::controls::leaf_sound` meets its contract: the definition's one test.
 use borrow.Author.Tests.{eq-eqb, ne_eqb}
-use borrow.Author.Rules.{rules}
 use Rattle.audit.specs.Configuration.{leaf_sound}
 use Rattle.audit.proofs.controls.leaf_sound.Goals as goal
 

@@ -1,11 +1,5 @@
-use Prim.Native.Nat.{◌-◌}
-use mathlib.Core.Path.{◌≡◌}
 use native.Mathlib.Nat.{sub-zero}
-use borrow.Author.Tests.{not-true, not-false}
-use borrow.Author.Rules.{rules}
-use Rattle.terms.specs.Line.{line_at}
-use Rattle.audit.specs.Configuration.{leaves_sound, leaf_sound}
-use Rattle.terms.specs.Each.{all_from}
+use Rattle.audit.specs.Configuration.{leaves_sound}
 use Rattle.terms.proofs.Each.{all_more, all_end}
 use Rattle.audit.proofs.controls.leaves_sound.Goals as goal
 

@@ -2,13 +2,9 @@
 -- the present one on. The measure is what is left.
 use Prim.Native.Nat.{◌-◌}
 use mathlib.Core.Path.{◌≡◌}
-use native.Mathlib.Nat.{sub-zero}
-use borrow.Author.Tests.{not-true, not-false}
-use borrow.Author.Rules.{rules}
 use Rattle.terms.specs.Line.{line_at}
 use Rattle.audit.specs.Configuration.{leaves_sound, leaf_sound}
 use Rattle.terms.specs.Each.{all_from}
-use Rattle.terms.proofs.Each.{all_more, all_end}
 use Rattle.audit.proofs.controls.leaves_sound.Given as goal
 
 abbrev pub invariant-loop-i : goal.invariant-loop-i

@@ -1,10 +1,10 @@
-use Prim.Native.Nat.{◌+◌, ◌-◌}
+use Prim.Native.Nat.{◌+◌}
 use mathlib.Core.Path.{◌≡◌}
 use native.Mathlib.Omega.{arith}
 use lib.ListN.{length, take, drop}
 use borrow.Author.Rules.{rules}
 use Rattle.state.specs.FrameSound.{listed_on}
-use Rattle.audit.proofs.Laws.{listed_more, listed_end, Counted, counted_more, counted_end}
+use Rattle.audit.proofs.Laws.{listed_more, listed_end, counted_more, counted_end}
 use Rattle.audit.proofs.controls.listed_count.Goals as goal
 
 pub loop-i-init : goal.loop-i-init

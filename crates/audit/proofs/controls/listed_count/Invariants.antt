@@ -1,12 +1,9 @@
 -- `audit::controls::listed_count` meets its contract: the loop keeps that the whole count is what has been counted
 -- and what is still to come. The measure is what is left.
-use Prim.Native.Nat.{◌+◌, ◌-◌}
-use mathlib.Core.Path.{◌≡◌}
-use native.Mathlib.Omega.{arith}
-use lib.ListN.{length, take, drop}
-use borrow.Author.Rules.{rules}
+use Prim.Native.Nat.{◌-◌}
+use lib.ListN.{take, drop}
 use Rattle.state.specs.FrameSound.{listed_on}
-use Rattle.audit.proofs.Laws.{listed_more, listed_end, Counted, counted_more, counted_end}
+use Rattle.audit.proofs.Laws.{Counted}
 use Rattle.audit.proofs.controls.listed_count.Given as goal
 
 abbrev pub invariant-loop-i : goal.invariant-loop-i

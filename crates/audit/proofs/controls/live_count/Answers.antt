@@ -1,10 +1,10 @@
-use Prim.Native.Nat.{◌+◌, ◌-◌}
+use Prim.Native.Nat.{◌+◌}
 use mathlib.Core.Path.{◌≡◌}
 use native.Mathlib.Omega.{arith}
 use lib.ListN.{length, drop}
 use borrow.Author.Rules.{rules}
 use Rattle.state.specs.FrameSound.{live_on}
-use Rattle.audit.proofs.Laws.{live_more, live_end, Counted, counted_more, counted_end}
+use Rattle.audit.proofs.Laws.{live_more, live_end, counted_more, counted_end}
 use Rattle.audit.proofs.controls.live_count.Goals as goal
 
 pub loop-i-init : goal.loop-i-init

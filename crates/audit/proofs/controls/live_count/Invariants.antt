@@ -1,12 +1,9 @@
 -- `audit::controls::live_count` meets its contract: the loop keeps that the whole count is what has been counted and
 -- what is still to come. The measure is what is left.
-use Prim.Native.Nat.{◌+◌, ◌-◌}
-use mathlib.Core.Path.{◌≡◌}
-use native.Mathlib.Omega.{arith}
-use lib.ListN.{length, drop}
-use borrow.Author.Rules.{rules}
+use Prim.Native.Nat.{◌-◌}
+use lib.ListN.{drop}
 use Rattle.state.specs.FrameSound.{live_on}
-use Rattle.audit.proofs.Laws.{live_more, live_end, Counted, counted_more, counted_end}
+use Rattle.audit.proofs.Laws.{Counted}
 use Rattle.audit.proofs.controls.live_count.Given as goal
 
 abbrev pub invariant-loop-i : goal.invariant-loop-i

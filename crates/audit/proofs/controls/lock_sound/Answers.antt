@@ -1,6 +1,5 @@
 -- `audit::controls::lock_sound` meets its contract: free, then exactly its number, then what it names.
 use borrow.Author.Tests.{not-true, not-false, ne_eqb, eq-eqb}
-use borrow.Author.Rules.{rules}
 use Rattle.audit.specs.Configuration.{lock_sound}
 use Rattle.audit.proofs.controls.lock_sound.Goals as goal
 

@@ -1,14 +1,11 @@
 -- `audit::controls::locks_sound` meets its contract: the loop keeps that the test on each is the test on those from
 -- the present one on. The measure is what is left.
 use Prim.Native.Nat.{◌-◌}
-use mathlib.Core.Path.{refl, ◌≡◌}
+use mathlib.Core.Path.{◌≡◌}
 use lib.Dec.{ltb}
 use lib.ListN.{get_or}
-use borrow.Author.Tests.{not-true, not-false}
-use borrow.Author.Rules.{rules}
 use Rattle.audit.specs.Configuration.{locks_sound, lock_sound}
 use Rattle.terms.specs.Each.{all_from}
-use Rattle.terms.proofs.Each.{all_more, all_end}
 use Rattle.audit.proofs.controls.locks_sound.Given as goal
 
 abbrev pub invariant-loop-i : goal.invariant-loop-i

@@ -1,5 +1,4 @@
 -- `audit::controls::machine_fits` meets its contract: the callees' answers put together.
-use borrow.Author.Rules.{rules}
 use Rattle.state.specs.FrameSound.{most_among}
 use Rattle.audit.specs.Configuration.{machine_fits}
 use Rattle.audit.proofs.controls.machine_fits.Goals as goal

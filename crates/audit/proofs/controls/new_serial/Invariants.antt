@@ -3,12 +3,9 @@
 use Prim.Native.Nat.{◌-◌}
 use mathlib.Core.Path.{◌≡◌}
 use mathlib.Core.Bool.{not}
-use native.Mathlib.Nat.{sub-zero}
-use borrow.Author.Rules.{rules}
 use Rattle.state.specs.Slot.{slot_at}
 use Rattle.audit.specs.Configuration.{new_serial, same_serial}
 use Rattle.terms.specs.Each.{all_from}
-use Rattle.terms.proofs.Each.{all_more, all_end}
 use Rattle.audit.proofs.controls.new_serial.Given as goal
 
 abbrev pub invariant-loop-j : goal.invariant-loop-j

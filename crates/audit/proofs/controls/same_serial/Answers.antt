@@ -1,5 +1,4 @@
 -- `audit::controls::same_serial` meets its contract: the definition's one test.
-use borrow.Author.Rules.{rules}
 use Rattle.audit.specs.Configuration.{same_serial}
 use Rattle.audit.proofs.controls.same_serial.Goals as goal
 

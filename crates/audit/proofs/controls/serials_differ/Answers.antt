@@ -1,9 +1,5 @@
-use Prim.Native.Nat.{◌-◌}
-use mathlib.Core.Path.{refl, ◌≡◌}
-use borrow.Author.Tests.{not-true, not-false}
-use borrow.Author.Rules.{rules}
-use Rattle.audit.specs.Configuration.{serials_differ, new_serial}
-use Rattle.terms.specs.Each.{all_from}
+use mathlib.Core.Path.{refl}
+use Rattle.audit.specs.Configuration.{serials_differ}
 use Rattle.terms.proofs.Each.{all_more, all_end}
 use Rattle.audit.proofs.controls.serials_differ.Goals as goal
 

@@ -1,6 +1,5 @@
 -- `audit::controls::slot_sound` meets its contract: free, then exactly its number, then what it names.
 use borrow.Author.Tests.{not-true, not-false, ne_eqb, eq-eqb}
-use borrow.Author.Rules.{rules}
 use Rattle.audit.specs.Configuration.{slot_sound}
 use Rattle.audit.proofs.controls.slot_sound.Goals as goal
 

@@ -1,6 +1,4 @@
 -- `audit::controls::sound_control` meets its contract: the clauses of the definition in its order, one callee each.
-use borrow.Author.Tests.{not-true, not-false}
-use borrow.Author.Rules.{rules}
 use Rattle.audit.specs.Configuration.{sound_control}
 use Rattle.audit.proofs.controls.sound_control.Goals as goal
 

@@ -1,6 +1,5 @@
 -- `audit::controls::table_sound` meets its contract: the clauses of the definition in its order, one callee each.
-use borrow.Author.Tests.{not-true, not-false, lt-leb, le-leb}
-use borrow.Author.Rules.{rules}
+use borrow.Author.Tests.{lt-leb, le-leb}
 use Rattle.audit.specs.Configuration.{table_sound}
 use Rattle.audit.proofs.controls.table_sound.Goals as goal
 

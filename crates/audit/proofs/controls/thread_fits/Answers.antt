@@ -1,6 +1,5 @@
 -- `audit::controls::thread_fits` meets its contract: the clauses of the definition in its order.
 use borrow.Author.Tests.{le-ltb, lt-ltb}
-use borrow.Author.Rules.{rules}
 use Rattle.audit.specs.Configuration.{thread_fits}
 use Rattle.audit.proofs.controls.thread_fits.Goals as goal
 

@@ -1,9 +1,5 @@
-use Prim.Native.Nat.{◌-◌}
-use mathlib.Core.Path.{refl, ◌≡◌}
-use borrow.Author.Tests.{not-true, not-false}
-use borrow.Author.Rules.{rules}
-use Rattle.audit.specs.Configuration.{threads_fit, machine_fits}
-use Rattle.terms.specs.Each.{all_from}
+use mathlib.Core.Path.{refl}
+use Rattle.audit.specs.Configuration.{threads_fit}
 use Rattle.terms.proofs.Each.{all_more, all_end}
 use Rattle.audit.proofs.controls.threads_fit.Goals as goal
 

@@ -1,12 +1,9 @@
 -- `audit::controls::threads_fit` meets its contract: the loop keeps that the test on each is the test on those from
 -- the present one on. The measure is what is left.
 use Prim.Native.Nat.{◌-◌}
-use mathlib.Core.Path.{refl, ◌≡◌}
-use borrow.Author.Tests.{not-true, not-false}
-use borrow.Author.Rules.{rules}
+use mathlib.Core.Path.{◌≡◌}
 use Rattle.audit.specs.Configuration.{threads_fit, machine_fits}
 use Rattle.terms.specs.Each.{all_from}
-use Rattle.terms.proofs.Each.{all_more, all_end}
 use Rattle.audit.proofs.controls.threads_fit.Given as goal
 
 abbrev pub invariant-loop-k : goal.invariant-loop-k

@@ -1,5 +1,4 @@
 -- `audit::controls::value_sound` meets its contract: the definition's one test.
-use borrow.Author.Rules.{rules}
 use Rattle.audit.specs.Configuration.{value_sound}
 use Rattle.audit.proofs.controls.value_sound.Goals as goal
 

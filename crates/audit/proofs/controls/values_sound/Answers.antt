@@ -1,11 +1,5 @@
-use Prim.Native.Nat.{◌-◌}
-use mathlib.Core.Path.{refl, ◌≡◌}
-use lib.Dec.{ltb}
-use lib.ListN.{get_or}
-use borrow.Author.Tests.{not-true, not-false}
-use borrow.Author.Rules.{rules}
-use Rattle.audit.specs.Configuration.{values_sound, value_sound}
-use Rattle.terms.specs.Each.{all_from}
+use mathlib.Core.Path.{refl}
+use Rattle.audit.specs.Configuration.{values_sound}
 use Rattle.terms.proofs.Each.{all_more, all_end}
 use Rattle.audit.proofs.controls.values_sound.Goals as goal
 

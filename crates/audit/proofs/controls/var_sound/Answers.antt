@@ -1,5 +1,4 @@
 -- `audit::controls::var_sound` meets its contract: the definition's one test.
-use borrow.Author.Rules.{rules}
 use Rattle.audit.specs.Configuration.{var_sound}
 use Rattle.audit.proofs.controls.var_sound.Goals as goal
 

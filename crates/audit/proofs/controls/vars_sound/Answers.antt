@@ -1,11 +1,5 @@
-use Prim.Native.Nat.{◌-◌, ◌/◌, ◌%◌}
-use mathlib.Core.Path.{refl, ◌≡◌}
-use lib.ListN.{get_or}
-use borrow.Author.Tests.{not-true, not-false}
-use borrow.Author.Rules.{rules}
-use Rattle.state.specs.Slot.{slot_at}
-use Rattle.audit.specs.Configuration.{vars_sound, var_sound}
-use Rattle.terms.specs.Each.{all_from}
+use mathlib.Core.Path.{refl}
+use Rattle.audit.specs.Configuration.{vars_sound}
 use Rattle.terms.proofs.Each.{all_more, all_end}
 use Rattle.audit.proofs.controls.vars_sound.Goals as goal
 

@@ -1,5 +1,4 @@
 -- `audit::listed::first_fits` meets its contract: the definition's tests, in its order.
-use borrow.Author.Rules.{rules}
 use Rattle.audit.specs.Listed.{first_fits}
 use Rattle.audit.proofs.listed.first_fits.Goals as goal
 

@@ -1,6 +1,5 @@
 -- `audit::listed::location_sound` meets its contract: not listed, then exactly its number, then what it names.
-use borrow.Author.Tests.{not-true, not-false, ne_eqb, eq-eqb, le-ltb, lt-ltb}
-use borrow.Author.Rules.{rules}
+use borrow.Author.Tests.{ne_eqb, eq-eqb, le-ltb, lt-ltb}
 use Rattle.audit.specs.Listed.{location_sound}
 use Rattle.audit.proofs.listed.location_sound.Goals as goal
 

@@ -1,6 +1,5 @@
 -- `audit::listed::locations_sound` meets its contract: the limit, then the callee's answer.
 use borrow.Author.Tests.{lt-leb, le-leb}
-use borrow.Author.Rules.{rules}
 use Rattle.audit.specs.Listed.{locations_sound}
 use Rattle.audit.proofs.listed.locations_sound.Goals as goal
 

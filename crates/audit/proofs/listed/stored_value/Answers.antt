@@ -1,6 +1,5 @@
 -- `audit::listed::stored_value` meets its contract: the definition's tests, in its order.
 use borrow.Author.Tests.{lt-ltb, le-ltb}
-use borrow.Author.Rules.{rules}
 use Rattle.audit.specs.Listed.{stored_value}
 use Rattle.audit.proofs.listed.stored_value.Goals as goal
 

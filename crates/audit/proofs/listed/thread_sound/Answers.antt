@@ -1,6 +1,5 @@
 -- `audit::listed::thread_sound` meets its contract: not listed, then exactly its number, then what it names.
-use borrow.Author.Tests.{not-true, not-false, ne_eqb, eq-eqb}
-use borrow.Author.Rules.{rules}
+use borrow.Author.Tests.{ne_eqb, eq-eqb}
 use Rattle.audit.specs.Listed.{thread_sound}
 use Rattle.audit.proofs.listed.thread_sound.Goals as goal
 

@@ -1,6 +1,5 @@
 -- `audit::models::may_be_listed` meets its contract: no nonce, then the callee's answer.
 use borrow.Author.Tests.{eq-eqb, ne_eqb}
-use borrow.Author.Rules.{rules}
 use Rattle.audit.specs.Models.{may_be_listed}
 use Rattle.audit.proofs.models.may_be_listed.Goals as goal
 

@@ -1,6 +1,5 @@
 -- `audit::models::sound_model` meets its contract: the clauses of the definition in its order, one callee each.
-use borrow.Author.Tests.{ne_eqb, eq-eqb, not-true, not-false}
-use borrow.Author.Rules.{rules}
+use borrow.Author.Tests.{ne_eqb, eq-eqb}
 use Rattle.audit.specs.Models.{sound_model}
 use Rattle.audit.proofs.models.sound_model.Goals as goal
 

@@ -1,10 +1,5 @@
-use Prim.Native.Nat.{◌-◌}
-use mathlib.Core.Path.{refl, ◌≡◌}
-use borrow.Author.Tests.{not-true, not-false}
-use borrow.Author.Rules.{rules}
-use Rattle.terms.specs.Line.{line_at}
-use Rattle.audit.specs.Models.{terms_listed, may_be_listed}
-use Rattle.terms.specs.Each.{all_from}
+use mathlib.Core.Path.{refl}
+use Rattle.audit.specs.Models.{terms_listed}
 use Rattle.terms.proofs.Each.{all_more, all_end}
 use Rattle.audit.proofs.models.terms_listed.Goals as goal
 

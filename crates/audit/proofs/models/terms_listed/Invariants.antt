@@ -1,13 +1,10 @@
 -- `audit::models::terms_listed` meets its contract: the loop keeps that the test on each is the test on those from
 -- the present one on. The measure is what is left.
 use Prim.Native.Nat.{◌-◌}
-use mathlib.Core.Path.{refl, ◌≡◌}
-use borrow.Author.Tests.{not-true, not-false}
-use borrow.Author.Rules.{rules}
+use mathlib.Core.Path.{◌≡◌}
 use Rattle.terms.specs.Line.{line_at}
 use Rattle.audit.specs.Models.{terms_listed, may_be_listed}
 use Rattle.terms.specs.Each.{all_from}
-use Rattle.terms.proofs.Each.{all_more, all_end}
 use Rattle.audit.proofs.models.terms_listed.Given as goal
 
 abbrev pub invariant-loop-i : goal.invariant-loop-i

@@ -1,6 +1,4 @@
 -- `audit::programs::action_fits` meets its contract: the refusals of the definition in its order.
-use borrow.Author.Tests.{not-true, not-false}
-use borrow.Author.Rules.{rules}
 use Rattle.audit.specs.Programs.{action_fits}
 use Rattle.audit.proofs.programs.action_fits.Goals as goal
 

@@ -1,6 +1,5 @@
 -- `audit::programs::action_sound` meets its contract: the refusals of the definition in its order.
-use borrow.Author.Tests.{le-leb, lt-leb, ne_eqb, eq-eqb, not-true, not-false}
-use borrow.Author.Rules.{rules}
+use borrow.Author.Tests.{le-leb, lt-leb, ne_eqb, eq-eqb}
 use Rattle.audit.specs.Programs.{action_sound}
 use Rattle.audit.proofs.programs.action_sound.Goals as goal
 

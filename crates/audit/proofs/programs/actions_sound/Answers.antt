@@ -1,10 +1,5 @@
-use Prim.Native.Nat.{◌-◌}
-use mathlib.Core.Path.{refl, ◌≡◌}
-use borrow.Author.Tests.{not-true, not-false}
-use borrow.Author.Rules.{rules}
-use Rattle.model.specs.Records.{action_number}
-use Rattle.audit.specs.Programs.{actions_sound, action_sound}
-use Rattle.terms.specs.Each.{all_from}
+use mathlib.Core.Path.{refl}
+use Rattle.audit.specs.Programs.{actions_sound}
 use Rattle.terms.proofs.Each.{all_more, all_end}
 use Rattle.audit.proofs.programs.actions_sound.Goals as goal
 

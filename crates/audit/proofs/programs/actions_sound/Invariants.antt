@@ -1,13 +1,10 @@
 -- `audit::programs::actions_sound` meets its contract: the loop keeps that the test on each is the test on those from
 -- the present one on. The measure is what is left.
 use Prim.Native.Nat.{◌-◌}
-use mathlib.Core.Path.{refl, ◌≡◌}
-use borrow.Author.Tests.{not-true, not-false}
-use borrow.Author.Rules.{rules}
+use mathlib.Core.Path.{◌≡◌}
 use Rattle.model.specs.Records.{action_number}
 use Rattle.audit.specs.Programs.{actions_sound, action_sound}
 use Rattle.terms.specs.Each.{all_from}
-use Rattle.terms.proofs.Each.{all_more, all_end}
 use Rattle.audit.proofs.programs.actions_sound.Given as goal
 
 abbrev pub invariant-loop-k : goal.invariant-loop-k

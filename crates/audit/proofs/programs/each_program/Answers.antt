@@ -1,9 +1,5 @@
-use Prim.Native.Nat.{◌-◌}
-use mathlib.Core.Path.{refl, ◌≡◌}
-use borrow.Author.Tests.{not-true, not-false}
-use borrow.Author.Rules.{rules}
+use mathlib.Core.Path.{refl}
 use Rattle.audit.specs.Programs.{each_program, program_sound}
-use Rattle.terms.specs.Each.{all_from}
 use Rattle.terms.proofs.Each.{all_more, all_end}
 use Rattle.audit.proofs.programs.each_program.Goals as goal
 

@@ -1,12 +1,9 @@
 -- `audit::programs::each_program` meets its contract: the loop keeps that all programs are sound exactly when those
 -- from p on are. The measure is the programs left.
 use Prim.Native.Nat.{◌-◌}
-use mathlib.Core.Path.{refl, ◌≡◌}
-use borrow.Author.Tests.{not-true, not-false}
-use borrow.Author.Rules.{rules}
+use mathlib.Core.Path.{◌≡◌}
 use Rattle.audit.specs.Programs.{each_program, program_sound}
 use Rattle.terms.specs.Each.{all_from}
-use Rattle.terms.proofs.Each.{all_more, all_end}
 use Rattle.audit.proofs.programs.each_program.Given as goal
 
 abbrev pub invariant-loop-p : goal.invariant-loop-p

@@ -1,11 +1,6 @@
-use Prim.Native.Nat.{◌-◌}
-use mathlib.Core.Path.{refl, ◌≡◌}
-use lib.Dec.{eqb}
+use mathlib.Core.Path.{refl}
 use borrow.Author.Tests.{ne_eqb, eq-eqb}
-use borrow.Author.Rules.{rules}
-use Rattle.model.specs.Records.{action_number}
 use Rattle.audit.specs.Programs.{equal_actions}
-use Rattle.terms.specs.Each.{all_from}
 use Rattle.terms.proofs.Each.{all_more, all_end}
 use Rattle.audit.proofs.programs.equal_actions.Goals as goal
 

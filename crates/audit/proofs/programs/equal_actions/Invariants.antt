@@ -1,14 +1,11 @@
 -- `audit::programs::equal_actions` meets its contract: the loop keeps that the test on each is the test on those from
 -- the present one on. The measure is what is left.
 use Prim.Native.Nat.{◌-◌}
-use mathlib.Core.Path.{refl, ◌≡◌}
+use mathlib.Core.Path.{◌≡◌}
 use lib.Dec.{eqb}
-use borrow.Author.Tests.{ne_eqb, eq-eqb}
-use borrow.Author.Rules.{rules}
 use Rattle.model.specs.Records.{action_number}
 use Rattle.audit.specs.Programs.{equal_actions}
 use Rattle.terms.specs.Each.{all_from}
-use Rattle.terms.proofs.Each.{all_more, all_end}
 use Rattle.audit.proofs.programs.equal_actions.Given as goal
 
 abbrev pub invariant-loop-k : goal.invariant-loop-k

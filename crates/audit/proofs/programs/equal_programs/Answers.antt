@@ -1,6 +1,5 @@
 -- `audit::programs::equal_programs` meets its contract: the definition's tests, in its order.
 use borrow.Author.Tests.{eq-eqb, ne_eqb}
-use borrow.Author.Rules.{rules}
 use Rattle.audit.specs.Programs.{equal_programs}
 use Rattle.audit.proofs.programs.equal_programs.Goals as goal
 

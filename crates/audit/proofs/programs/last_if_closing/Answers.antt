@@ -1,5 +1,4 @@
 -- `audit::programs::last_if_closing` meets its contract: the definition's tests, in its order.
-use borrow.Author.Rules.{rules}
 use Rattle.audit.specs.Programs.{last_if_closing}
 use Rattle.audit.proofs.programs.last_if_closing.Goals as goal
 

@@ -1,6 +1,5 @@
 -- `audit::programs::length_fits` meets its contract: the definition's tests, in its order.
 use borrow.Author.Tests.{lt-ltb, le-ltb}
-use borrow.Author.Rules.{rules}
 use Rattle.audit.specs.Programs.{length_fits}
 use Rattle.audit.proofs.programs.length_fits.Goals as goal
 

@@ -1,6 +1,5 @@
 -- `audit::programs::listed_and_fits` meets its contract: the definition's tests, in its order.
 use borrow.Author.Tests.{lt-ltb, le-ltb}
-use borrow.Author.Rules.{rules}
 use Rattle.audit.specs.Programs.{listed_and_fits}
 use Rattle.audit.proofs.programs.listed_and_fits.Goals as goal
 

@@ -1,5 +1,4 @@
 -- `audit::programs::loc_fits` meets its contract: whether the loc field names a location, and then the callee's answer.
-use borrow.Author.Rules.{rules}
 use Rattle.audit.specs.Programs.{loc_fits}
 use Rattle.audit.proofs.programs.loc_fits.Goals as goal
 

@@ -3,11 +3,8 @@
 use Prim.Native.Nat.{◌-◌}
 use mathlib.Core.Path.{◌≡◌}
 use mathlib.Core.Bool.{not}
-use native.Mathlib.Nat.{sub-zero}
-use borrow.Author.Rules.{rules}
 use Rattle.audit.specs.Programs.{new_program, equal_programs}
 use Rattle.terms.specs.Each.{all_from}
-use Rattle.terms.proofs.Each.{all_more, all_end}
 use Rattle.audit.proofs.programs.new_program.Given as goal
 
 abbrev pub invariant-loop-q : goal.invariant-loop-q

@@ -1,6 +1,5 @@
 -- `audit::programs::operand_fits` meets its contract: the definition's tests, in its order.
 use borrow.Author.Tests.{lt-ltb, le-ltb}
-use borrow.Author.Rules.{rules}
 use Rattle.audit.specs.Programs.{operand_fits}
 use Rattle.audit.proofs.programs.operand_fits.Goals as goal
 

@@ -1,10 +1,5 @@
-use Prim.Native.Nat.{◌-◌}
-use mathlib.Core.Path.{◌≡◌}
 use native.Mathlib.Nat.{sub-zero}
-use borrow.Author.Tests.{not-true, not-false}
-use borrow.Author.Rules.{rules}
-use Rattle.audit.specs.Programs.{programs_differ, new_program}
-use Rattle.terms.specs.Each.{all_from}
+use Rattle.audit.specs.Programs.{programs_differ}
 use Rattle.terms.proofs.Each.{all_more, all_end}
 use Rattle.audit.proofs.programs.programs_differ.Goals as goal
 

@@ -1,6 +1,5 @@
 -- `audit::programs::programs_sound` meets its contract: the refusals of the definition in its order.
-use borrow.Author.Tests.{lt-leb, le-leb, not-true, not-false}
-use borrow.Author.Rules.{rules}
+use borrow.Author.Tests.{lt-leb, le-leb}
 use Rattle.audit.specs.Programs.{programs_sound}
 use Rattle.audit.proofs.programs.programs_sound.Goals as goal
 

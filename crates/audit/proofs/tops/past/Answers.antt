@@ -1,6 +1,5 @@
 -- `audit::tops::past` meets its contract: the two cases of the definition.
 use borrow.Author.Tests.{lt-ltb, le-ltb}
-use borrow.Author.Rules.{rules}
 use Rattle.audit.specs.Tops.{past_of}
 use Rattle.audit.proofs.tops.past.Goals as goal
 

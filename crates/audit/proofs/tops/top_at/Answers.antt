@@ -1,6 +1,5 @@
 -- `audit::tops::top_at` meets its contract: the label is in the table, or not.
 use borrow.Author.Tests.{lt-ltb, le-ltb}
-use borrow.Author.Rules.{rules}
 use Rattle.audit.specs.Tops.{top_at}
 use Rattle.audit.proofs.tops.top_at.Goals as goal
 

@@ -1,5 +1,4 @@
 -- `audit::tops::top_of` meets its contract: the eight shapes.
-use borrow.Author.Rules.{rules}
 use Rattle.audit.specs.Tops.{top_of}
 use Rattle.audit.proofs.tops.top_of.Goals as goal
 

@@ -1,7 +1,5 @@
-use Prim.Native.Nat.{◌-◌}
-use mathlib.Core.Path.{refl, ◌≡◌}
-use borrow.Author.Rules.{rules}
-use Rattle.audit.specs.Tops.{tops_of, tops_from}
+use mathlib.Core.Path.{refl}
+use Rattle.audit.specs.Tops.{tops_of}
 use Rattle.audit.proofs.Laws.{tops_more, tops_end}
 use Rattle.audit.proofs.tops.tops.Goals as goal
 

@@ -1,10 +1,8 @@
 -- `audit::tops::tops` meets its contract: the loop keeps that the tops of all labels are those of the labels from i
 -- on, put into what is known. The measure is the labels left.
 use Prim.Native.Nat.{◌-◌}
-use mathlib.Core.Path.{refl, ◌≡◌}
-use borrow.Author.Rules.{rules}
+use mathlib.Core.Path.{◌≡◌}
 use Rattle.audit.specs.Tops.{tops_of, tops_from}
-use Rattle.audit.proofs.Laws.{tops_more, tops_end}
 use Rattle.audit.proofs.tops.tops.Given as goal
 
 abbrev pub invariant-loop-i : goal.invariant-loop-i

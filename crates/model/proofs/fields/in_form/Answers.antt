@@ -1,6 +1,5 @@
 -- `model::fields::in_form` meets its contract: a known op, then the callees' answers in the definition's order.
-use borrow.Author.Tests.{le-leb, lt-leb, not-true, not-false}
-use borrow.Author.Rules.{rules}
+use borrow.Author.Tests.{le-leb, lt-leb}
 use Rattle.model.specs.Fields.{in_form}
 use Rattle.model.proofs.fields.in_form.Goals as goal
 

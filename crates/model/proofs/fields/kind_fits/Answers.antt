@@ -1,5 +1,4 @@
 -- `model::fields::kind_fits` meets its contract: by what the loc field is; the kind's test is a callee's.
-use borrow.Author.Rules.{rules}
 use Rattle.model.specs.Fields.{kind_fits}
 use Rattle.model.proofs.fields.kind_fits.Goals as goal
 

@@ -1,5 +1,4 @@
 -- `model::fields::loc_in_form` meets its contract: by what the loc field is.
-use borrow.Author.Rules.{rules}
 use Rattle.model.specs.Fields.{loc_in_form}
 use Rattle.model.proofs.fields.loc_in_form.Goals as goal
 

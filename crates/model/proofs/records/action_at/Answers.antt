@@ -1,5 +1,4 @@
 -- `model::records::action_at` meets its contract: the number at the place, taken apart.
-use borrow.Author.Rules.{rules}
 use Rattle.model.specs.Records.{action_at}
 use Rattle.model.proofs.records.action_at.Goals as goal
 

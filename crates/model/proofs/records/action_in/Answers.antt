@@ -1,6 +1,5 @@
 -- `model::records::action_in` meets its contract: the definition word for word; each remainder fits its field.
 use mathlib.Core.Path.{refl}
-use borrow.Author.Rules.{rules}
 use Rattle.model.specs.Records.{action_in}
 use Rattle.model.proofs.records.action_in.Goals as goal
 

@@ -1,6 +1,5 @@
 -- `model::records::action_number` meets its contract: within the array what stands there, past it 0.
 use borrow.Author.Tests.{lt-ltb, le-ltb}
-use borrow.Author.Rules.{rules}
 use Rattle.model.specs.Records.{action_number}
 use Rattle.model.proofs.records.action_number.Goals as goal
 

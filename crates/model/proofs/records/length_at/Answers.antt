@@ -1,6 +1,5 @@
 -- `model::records::length_at` meets its contract: within the array what stands there, past it 0.
 use borrow.Author.Tests.{lt-ltb, le-ltb}
-use borrow.Author.Rules.{rules}
 use Rattle.model.specs.Records.{length_at}
 use Rattle.model.proofs.records.length_at.Goals as goal
 

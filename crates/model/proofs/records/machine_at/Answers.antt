@@ -1,6 +1,5 @@
 -- `model::records::machine_at` meets its contract: within the array what stands there, past it the record of 0.
 use borrow.Author.Tests.{lt-ltb, le-ltb}
-use borrow.Author.Rules.{rules}
 use Rattle.model.specs.Records.{machine_at}
 use Rattle.model.proofs.records.machine_at.Goals as goal
 

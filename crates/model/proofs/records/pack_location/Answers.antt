@@ -1,7 +1,6 @@
 -- `model::records::pack_location` meets its contract: the definition word for word; the sum fits since each field is
 -- below its width.
 use mathlib.Core.Path.{refl}
-use borrow.Author.Rules.{rules}
 use Rattle.model.specs.Records.{pack_location}
 use Rattle.model.proofs.records.pack_location.Goals as goal
 

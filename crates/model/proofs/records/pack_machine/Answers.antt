@@ -1,5 +1,4 @@
 -- `model::records::pack_machine` meets its contract: the definition word for word; the bit is 0 or 1.
-use borrow.Author.Rules.{rules}
 use Rattle.model.specs.Records.{pack_machine}
 use Rattle.model.proofs.records.pack_machine.Goals as goal
 

@@ -1,6 +1,5 @@
 -- `model::records::thread_at` meets its contract: within the array what stands there, past it the record of 0.
 use borrow.Author.Tests.{lt-ltb, le-ltb}
-use borrow.Author.Rules.{rules}
 use Rattle.model.specs.Records.{thread_at}
 use Rattle.model.proofs.records.thread_at.Goals as goal
 

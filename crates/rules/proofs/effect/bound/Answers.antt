@@ -1,5 +1,4 @@
 -- `rules::effect::bound` meets its contract: the test of the callee; then all cleared or one bound.
-use borrow.Author.Rules.{rules}
 use Rattle.rules.specs.Effect.{bound}
 use Rattle.rules.proofs.effect.bound.Goals as goal
 

@@ -1,9 +1,6 @@
-use Prim.Native.Nat.{◌-◌, ◌≤◌}
-use mathlib.Core.Path.{◌≡◌, sym, ◌∙◌}
+use mathlib.Core.Path.{sym, ◌∙◌}
 use borrow.Author.Rules.{rules}
-use Rattle.terms.specs.Base.{filled}
 use Rattle.terms.proofs.Laws.{fill_more, fill_end}
-use Rattle.rules.specs.Effect.{cleared}
 use Rattle.rules.proofs.Loops.{cleared_start}
 use Rattle.rules.proofs.effect.cleared.Goals as goal
 

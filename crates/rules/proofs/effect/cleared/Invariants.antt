@@ -1,12 +1,9 @@
 -- `rules::effect::cleared` meets its contract: the loop keeps that clearing the slot gives what filling from place k
 -- on gives. The measure is the places left.
 use Prim.Native.Nat.{◌-◌, ◌≤◌}
-use mathlib.Core.Path.{◌≡◌, sym, ◌∙◌}
-use borrow.Author.Rules.{rules}
+use mathlib.Core.Path.{◌≡◌}
 use Rattle.terms.specs.Base.{filled}
-use Rattle.terms.proofs.Laws.{fill_more, fill_end}
 use Rattle.rules.specs.Effect.{cleared}
-use Rattle.rules.proofs.Loops.{cleared_start}
 use Rattle.rules.proofs.effect.cleared.Given as goal
 
 abbrev pub invariant-loop-k : goal.invariant-loop-k

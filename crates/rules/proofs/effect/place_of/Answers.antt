@@ -1,6 +1,5 @@
 -- `rules::effect::place_of` meets its contract: the definition word for word; both numbers are below 256.
 use mathlib.Core.Path.{refl}
-use borrow.Author.Rules.{rules}
 use Rattle.rules.specs.Effect.{place_of}
 use Rattle.rules.proofs.effect.place_of.Goals as goal
 

@@ -1,5 +1,4 @@
 -- `rules::effect::stored` meets its contract: by the op, each arm one callee.
-use borrow.Author.Rules.{rules}
 use Rattle.rules.specs.Effect.{stored}
 use Rattle.terms.proofs.Laws.{tests}
 use Rattle.rules.proofs.effect.stored.Goals as goal

@@ -1,5 +1,4 @@
 -- `rules::effect::with_value` meets its contract: the range test of the definition.
-use borrow.Author.Rules.{rules}
 use borrow.Author.Tests.{lt-ltb, le-ltb}
 use Rattle.state.specs.Moves.{with_at}
 use Rattle.rules.proofs.effect.with_value.Goals as goal

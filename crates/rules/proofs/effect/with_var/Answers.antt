@@ -1,5 +1,4 @@
 -- `rules::effect::with_var` meets its contract: the range test of the definition.
-use borrow.Author.Rules.{rules}
 use borrow.Author.Tests.{lt-ltb, le-ltb}
 use Rattle.rules.specs.Effect.{with_var}
 use Rattle.rules.proofs.effect.with_var.Goals as goal

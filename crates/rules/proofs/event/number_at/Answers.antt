@@ -1,7 +1,6 @@
 -- `rules::event::number_at` meets its contract: past the numbers the definition reads its default, 0.
 use mathlib.Core.Path.{refl, sym}
 use lib.ListN.{get_or-eq_default}
-use borrow.Author.Rules.{rules}
 use Rattle.rules.specs.Event.{number_at}
 use Rattle.rules.proofs.event.number_at.Goals as goal
 

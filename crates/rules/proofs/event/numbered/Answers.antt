@@ -1,5 +1,4 @@
 -- `rules::event::numbered` meets its contract: the endings are the callees' answers.
-use borrow.Author.Rules.{rules}
 use Rattle.rules.specs.Event.{numbered}
 use Rattle.rules.proofs.event.numbered.Goals as goal
 

@@ -1,5 +1,4 @@
 -- `rules::event::record_of` meets its contract: by the event, as the definition does.
-use borrow.Author.Rules.{rules}
 use Rattle.rules.specs.Event.{record_of}
 use Rattle.rules.proofs.event.record_of.Goals as goal
 

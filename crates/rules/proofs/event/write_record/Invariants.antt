@@ -1,15 +1,9 @@
 -- `rules::event::write_record` meets its contract: the loop keeps that storing all twelve numbers gives what storing
 -- those from k on gives. The measure is the numbers left.
-use Prim.Native.Nat.{◌+◌, ◌-◌, ◌*◌, ◌≤◌}
-use mathlib.Core.Path.{◌≡◌, refl, ◌∙◌}
-use native.Mathlib.Nat.{add-zero}
-use native.Mathlib.Omega.{arith}
-use lib.ListN.{length, drop, length-set}
+use Prim.Native.Nat.{◌+◌, ◌-◌, ◌≤◌}
+use mathlib.Core.Path.{◌≡◌}
+use lib.ListN.{length, drop}
 use lib.Seq.{sets}
-use borrow.Author.Rules.{rules}
-use borrow.Author.Tests.{lt-ltb, le-ltb}
-use Rattle.rules.specs.Event.{record_put}
-use Rattle.rules.proofs.Loops.{sets_more, sets_end}
 use Rattle.rules.proofs.event.write_record.Given as goal
 
 abbrev pub invariant-loop-k : goal.invariant-loop-k

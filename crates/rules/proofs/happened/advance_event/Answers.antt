@@ -1,7 +1,6 @@
 -- `rules::happened::advance_event` meets its contract: a jump, a late launch, or an ordinary action, as in the
 -- definition.
 use native.Mathlib.Omega.{arith}
-use borrow.Author.Rules.{rules}
 use borrow.Author.Tests.{ne_eqb}
 use Rattle.rules.specs.Happened.{advance_event}
 use Rattle.rules.proofs.happened.advance_event.Goals as goal

@@ -1,6 +1,5 @@
 -- `rules::happened::ended_advance` meets its contract: the cases of the definition, by the next action.
 use native.Mathlib.Omega.{arith}
-use borrow.Author.Rules.{rules}
 use borrow.Author.Tests.{ne_eqb}
 use Rattle.rules.specs.Happened.{ended_advance}
 use Rattle.rules.proofs.happened.ended_advance.Goals as goal

@@ -1,5 +1,4 @@
 -- `rules::happened::ended_by` meets its contract: by the way that the code goes.
-use borrow.Author.Rules.{rules}
 use Rattle.rules.specs.Happened.{ended_on}
 use Rattle.rules.proofs.happened.ended_by.Goals as goal
 

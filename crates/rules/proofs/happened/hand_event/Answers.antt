@@ -1,5 +1,4 @@
 -- `rules::happened::hand_event` meets its contract: what is read is put into the definition.
-use borrow.Author.Rules.{rules}
 use Rattle.rules.specs.Happened.{hand_event}
 use Rattle.rules.proofs.happened.hand_event.Goals as goal
 

@@ -1,5 +1,4 @@
 -- `rules::happened::happened` meets its contract: by the way that the code goes.
-use borrow.Author.Rules.{rules}
 use Rattle.rules.specs.Happened.{hand_event, happened_on}
 use Rattle.rules.proofs.happened.happened.Goals as goal
 

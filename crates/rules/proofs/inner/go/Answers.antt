@@ -1,6 +1,5 @@
 -- `rules::inner::go` meets its contract: refused by the work, or event and configuration of the work's labels.
 use mathlib.Core.Path.{sym, ◌∙◌}
-use borrow.Author.Rules.{rules}
 use Rattle.rules.specs.Step.{go_on}
 use Rattle.rules.proofs.Parts.{happened_lent}
 use Rattle.rules.proofs.inner.go.Goals as goal

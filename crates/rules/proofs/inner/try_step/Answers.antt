@@ -1,5 +1,4 @@
 -- `rules::inner::try_step` meets its contract: a number of 1 to 7 is given back, else the step is made.
-use borrow.Author.Rules.{rules}
 use borrow.Author.Tests.{eq-eqb, ne_eqb}
 use Rattle.rules.specs.Step.{step_on}
 use Rattle.rules.proofs.inner.try_step.Goals as goal

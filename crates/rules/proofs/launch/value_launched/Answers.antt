@@ -1,5 +1,4 @@
 -- `rules::launch::value_launched` meets its contract: the one test of the definition.
-use borrow.Author.Rules.{rules}
 use Rattle.rules.specs.Restart.{value_launched}
 use Rattle.rules.proofs.launch.value_launched.Goals as goal
 

@@ -1,10 +1,6 @@
-use Prim.Native.Nat.{◌-◌, ◌≤◌}
-use mathlib.Core.List.{◌++◌}
-use mathlib.Core.Path.{◌≡◌, refl, sym, ◌∙◌}
+use mathlib.Core.Path.{refl, sym, ◌∙◌}
 use native.Mathlib.Omega.{arith}
-use lib.ListN.{length, take, drop}
 use borrow.Author.Rules.{rules}
-use Rattle.state.specs.Each.{each2}
 use Rattle.rules.specs.Restart.{value_launched, values_launched}
 use Rattle.state.proofs.Loops.{each_more, each_end}
 use Rattle.rules.proofs.launch.values_launched.Goals as goal
@@ -14,13 +10,12 @@ unfolding values_launched
 loop-i-init c = (refl, search rules, search rules)
 
 pub loop-i-preserved : goal.loop-i-preserved
-loop-i-preserved c =
-    (
-      c.loop-i.invariant.0 ∙ each_more (value_launched 2 c.args.m) c.loop-i.values c.args.locations.now c.loop-i.i 0 (omega arith)
-          ∙ rw (← c.value_launched.ensures),
-      search rules,
-      search rules,
-    )
+loop-i-preserved c = (
+  c.loop-i.invariant.0 ∙ each_more (value_launched 2 c.args.m) c.loop-i.values c.args.locations.now c.loop-i.i 0 (omega arith)
+      ∙ rw (← c.value_launched.ensures),
+  search rules,
+  search rules,
+)
 
 pub returns : goal.returns
 returns c =

@@ -1,6 +1,5 @@
 -- `rules::made::made` meets its contract: the two parts, put together.
 use mathlib.Core.Path.{sym, ◌∙◌}
-use borrow.Author.Rules.{rules}
 use Rattle.rules.specs.Made.{layout}
 use Rattle.rules.proofs.Parts.{made_parts}
 use Rattle.rules.proofs.made.made.Goals as goal

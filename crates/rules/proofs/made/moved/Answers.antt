@@ -1,5 +1,4 @@
 -- `rules::made::moved` meets its contract: the callees' answers.
-use borrow.Author.Rules.{rules}
 use Rattle.rules.specs.Parts.{moved}
 use Rattle.rules.proofs.made.moved.Goals as goal
 

@@ -1,5 +1,4 @@
 -- `rules::made::rest_handed` meets its contract: what is read is put into the definition.
-use borrow.Author.Rules.{rules}
 use Rattle.rules.specs.Parts.{rest_handed}
 use Rattle.rules.proofs.made.rest_handed.Goals as goal
 

@@ -1,5 +1,4 @@
 -- `rules::made::rest_made` meets its contract: by the way that the code goes.
-use borrow.Author.Rules.{rules}
 use Rattle.rules.specs.Parts.{rest_made}
 use Rattle.rules.proofs.made.rest_made.Goals as goal
 

@@ -1,5 +1,4 @@
 -- `rules::made::rest_reset` meets its contract: the callees' answers put into the definition.
-use borrow.Author.Rules.{rules}
 use Rattle.rules.specs.Parts.{rest_reset}
 use Rattle.rules.proofs.made.rest_reset.Goals as goal
 

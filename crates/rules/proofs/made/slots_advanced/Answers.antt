@@ -1,7 +1,6 @@
 -- `rules::made::slots_advanced` meets its contract: a jump, a late launch, or an ordinary action, as in the definition.
 use native.Mathlib.Omega.{arith}
 use borrow.Author.Tests.{ne_eqb}
-use borrow.Author.Rules.{rules}
 use Rattle.rules.specs.Parts.{slots_advanced}
 use Rattle.rules.proofs.made.slots_advanced.Goals as goal
 

@@ -1,5 +1,4 @@
 -- `rules::made::slots_handed` meets its contract: what is read is put into the definition.
-use borrow.Author.Rules.{rules}
 use Rattle.rules.specs.Parts.{slots_handed}
 use Rattle.rules.proofs.made.slots_handed.Goals as goal
 

@@ -1,5 +1,4 @@
 -- `rules::made::slots_made` meets its contract: by the way that the code goes.
-use borrow.Author.Rules.{rules}
 use Rattle.rules.specs.Parts.{slots_made}
 use Rattle.rules.proofs.made.slots_made.Goals as goal
 

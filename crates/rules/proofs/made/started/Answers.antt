@@ -1,5 +1,4 @@
 -- `rules::made::started` meets its contract: the callees' answers.
-use borrow.Author.Rules.{rules}
 use Rattle.rules.specs.Parts.{started}
 use Rattle.rules.proofs.made.started.Goals as goal
 

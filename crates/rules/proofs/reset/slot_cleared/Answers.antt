@@ -1,5 +1,4 @@
 -- `rules::reset::slot_cleared` meets its contract: the one test of the definition.
-use borrow.Author.Rules.{rules}
 use Rattle.rules.specs.Parts.{slot_cleared}
 use Rattle.rules.proofs.reset.slot_cleared.Goals as goal
 

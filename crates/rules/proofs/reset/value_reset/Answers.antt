@@ -1,5 +1,4 @@
 -- `rules::reset::value_reset` meets its contract: another machine's value stays, else by the kind.
-use borrow.Author.Rules.{rules}
 use borrow.Author.Tests.{eq-eqb, ne_eqb}
 use Rattle.rules.specs.Restart.{value_reset}
 use Rattle.rules.proofs.reset.value_reset.Goals as goal

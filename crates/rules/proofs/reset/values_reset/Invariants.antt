@@ -2,13 +2,10 @@
 -- still to come. The measure is the values left.
 use Prim.Native.Nat.{◌-◌, ◌≤◌}
 use mathlib.Core.List.{◌++◌}
-use mathlib.Core.Path.{◌≡◌, refl, sym, ◌∙◌}
-use native.Mathlib.Omega.{arith}
+use mathlib.Core.Path.{◌≡◌}
 use lib.ListN.{length, take, drop}
-use borrow.Author.Rules.{rules}
 use Rattle.state.specs.Each.{each2}
 use Rattle.rules.specs.Restart.{value_reset, values_reset}
-use Rattle.state.proofs.Loops.{each_more, each_end}
 use Rattle.rules.proofs.reset.values_reset.Given as goal
 
 abbrev pub invariant-loop-i : goal.invariant-loop-i

@@ -1,12 +1,10 @@
 -- `rules::reset::vars_reset` meets its contract: the loop keeps that the whole is what stands already and what is
 -- still to come. The measure is the slots left.
 use Prim.Native.Nat.{◌-◌, ◌*◌, ◌≤◌}
-use mathlib.Core.Path.{◌≡◌, refl, sym, ap, ◌∙◌}
-use native.Mathlib.Omega.{arith}
+use mathlib.Core.Path.{◌≡◌}
 use lib.ListN.{length}
-use borrow.Author.Rules.{rules}
 use Rattle.rules.specs.Restart.{var_reset, vars_reset}
-use Rattle.rules.proofs.Loops.{slot_end, up_to, cleared_more, cleared_long}
+use Rattle.rules.proofs.Loops.{up_to}
 use Rattle.rules.proofs.reset.vars_reset.Given as goal
 
 abbrev pub invariant-loop-i : goal.invariant-loop-i

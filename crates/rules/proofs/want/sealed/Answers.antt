@@ -1,5 +1,4 @@
 -- `rules::want::sealed` meets its contract: the one test of the definition.
-use borrow.Author.Rules.{rules}
 use borrow.Author.Tests.{eq-eqb, ne_eqb}
 use Rattle.rules.specs.Want.{sealed_by}
 use Rattle.rules.proofs.want.sealed.Goals as goal

@@ -1,5 +1,4 @@
 -- `rules::want::want_of` meets its contract: one arm an op, each the callee's answer or a label kept.
-use borrow.Author.Rules.{rules}
 use Rattle.rules.specs.Want.{want_of}
 use Rattle.terms.proofs.Laws.{tests}
 use Rattle.rules.proofs.want.want_of.Goals as goal

@@ -1,5 +1,4 @@
 -- `rules::work::code_at` meets its contract: the one test of the definition.
-use borrow.Author.Rules.{rules}
 use borrow.Author.Tests.{eq-eqb, ne_eqb}
 use Rattle.rules.specs.Work.{code_at}
 use Rattle.rules.proofs.work.code_at.Goals as goal

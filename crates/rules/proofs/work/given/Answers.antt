@@ -1,5 +1,4 @@
 -- `rules::work::given` meets its contract: the two terms that are read.
-use borrow.Author.Rules.{rules}
 use Rattle.rules.specs.Work.{given_at}
 use Rattle.rules.proofs.work.given.Goals as goal
 

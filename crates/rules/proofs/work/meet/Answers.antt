@@ -1,5 +1,4 @@
 -- `rules::work::meet` meets its contract: by the want, as the definition does.
-use borrow.Author.Rules.{rules}
 use Rattle.rules.specs.Work.{meet_want}
 use Rattle.rules.proofs.work.meet.Goals as goal
 

@@ -1,5 +1,4 @@
 -- `rules::work::meet_new` meets its contract: one return for each outcome of `add`.
-use borrow.Author.Rules.{rules}
 use Rattle.rules.specs.Work.{meet_new}
 use Rattle.rules.proofs.work.meet_new.Goals as goal
 

@@ -1,6 +1,5 @@
 -- `rules::work::try_action` meets its contract: the operands, what the action wants of them, and meeting it: one
 -- return for each outcome of the operands.
-use borrow.Author.Rules.{rules}
 use Rattle.rules.specs.Work.{try_action}
 use Rattle.rules.proofs.work.try_action.Goals as goal
 

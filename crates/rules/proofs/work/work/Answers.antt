@@ -1,6 +1,5 @@
 -- `rules::work::work` meets its contract: the same of what is lent.
 use mathlib.Core.Path.{◌∙◌, sym}
-use borrow.Author.Rules.{rules}
 use Rattle.rules.proofs.Parts.{work_lent_lem}
 use Rattle.rules.proofs.work.work.Goals as goal
 

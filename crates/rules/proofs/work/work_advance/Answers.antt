@@ -1,6 +1,5 @@
 -- `rules::work::work_advance` meets its contract: what is read is put into the definition; a refusal cuts the table
 -- back.
-use borrow.Author.Rules.{rules}
 use Rattle.rules.specs.Work.{work_advance}
 use Rattle.rules.proofs.work.work_advance.Goals as goal
 

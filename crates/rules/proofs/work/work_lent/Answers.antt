@@ -1,5 +1,4 @@
 -- `rules::work::work_lent` meets its contract: by the way that the code goes; the mover's or the sender's action.
-use borrow.Author.Rules.{rules}
 use Rattle.rules.specs.Work.{work_on}
 use Rattle.rules.proofs.work.work_lent.Goals as goal
 

@@ -1,5 +1,4 @@
 -- `state::code::way_of` meets its contract: the definition has the code's tests, in the same order.
-use borrow.Author.Rules.{rules}
 use Rattle.state.specs.Code.{way_of}
 use Rattle.terms.proofs.Laws.{tests}
 use Rattle.state.proofs.code.way_of.Goals as goal

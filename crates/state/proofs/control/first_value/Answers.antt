@@ -1,6 +1,5 @@
 -- `state::control::first_value` meets its contract: one call of `location_at`.
 use mathlib.Core.Path.{ap}
-use borrow.Author.Rules.{rules}
 use Rattle.model.specs.declared.records.Location.{Location}
 use Rattle.state.specs.Control.{first_value}
 use Rattle.state.proofs.control.first_value.Goals as goal

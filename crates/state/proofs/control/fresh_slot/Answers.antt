@@ -1,6 +1,5 @@
 -- `state::control::fresh_slot` meets its contract: free past the listed threads, else the callees' answers put into
 -- the definition.
-use borrow.Author.Rules.{rules}
 use borrow.Author.Tests.{le-leb, lt-leb}
 use Rattle.state.specs.Control.{fresh_slot}
 use Rattle.state.proofs.control.fresh_slot.Goals as goal

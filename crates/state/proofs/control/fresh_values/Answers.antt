@@ -1,10 +1,8 @@
-use Prim.Native.Nat.{◌-◌, ◌≤◌}
-use mathlib.Core.List.{◌++◌}
-use mathlib.Core.Path.{◌≡◌, refl, sym, ◌∙◌}
+use mathlib.Core.Path.{refl, sym, ◌∙◌}
 use native.Mathlib.Omega.{arith}
-use lib.ListN.{length, take, length-set}
+use lib.ListN.{length-set}
 use borrow.Author.Rules.{rules}
-use Rattle.state.specs.Control.{up_from, first_value, first_values}
+use Rattle.state.specs.Control.{first_value, first_values}
 use Rattle.state.proofs.Laws.{up_more, up_end}
 use Rattle.state.proofs.control.fresh_values.Goals as goal
 

@@ -2,12 +2,9 @@
 -- The measure is the locations left.
 use Prim.Native.Nat.{◌-◌, ◌≤◌}
 use mathlib.Core.List.{◌++◌}
-use mathlib.Core.Path.{◌≡◌, refl, sym, ◌∙◌}
-use native.Mathlib.Omega.{arith}
-use lib.ListN.{length, take, length-set}
-use borrow.Author.Rules.{rules}
+use mathlib.Core.Path.{◌≡◌}
+use lib.ListN.{length, take}
 use Rattle.state.specs.Control.{up_from, first_value, first_values}
-use Rattle.state.proofs.Laws.{up_more, up_end}
 use Rattle.state.proofs.control.fresh_values.Given as goal
 
 abbrev pub invariant-loop-i : goal.invariant-loop-i

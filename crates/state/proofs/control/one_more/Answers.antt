@@ -1,5 +1,4 @@
 -- `state::control::one_more` meets its contract: the one test of the definition.
-use borrow.Author.Rules.{rules}
 use Rattle.state.specs.Control.{one_more}
 use Rattle.terms.proofs.Laws.{tests}
 use Rattle.state.proofs.control.one_more.Goals as goal

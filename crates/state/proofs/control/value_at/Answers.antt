@@ -1,5 +1,4 @@
 -- `state::control::value_at` meets its contract: the range test of the definition.
-use borrow.Author.Rules.{rules}
 use borrow.Author.Tests.{lt-ltb, le-ltb}
 use Rattle.state.specs.Control.{value_at}
 use Rattle.state.proofs.control.value_at.Goals as goal

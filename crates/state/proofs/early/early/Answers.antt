@@ -1,5 +1,4 @@
 -- `state::early::early` meets its contract: by what the code moves, each arm one callee.
-use borrow.Author.Rules.{rules}
 use Rattle.state.specs.Early.{refusal_of, early_of}
 use Rattle.state.proofs.early.early.Goals as goal
 

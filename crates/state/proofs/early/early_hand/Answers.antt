@@ -1,7 +1,6 @@
 -- `state::early::early_hand` meets its contract: the reasons of the definition in its order, the callees' answers put
 -- in first.
-use borrow.Author.Rules.{rules}
-use borrow.Author.Tests.{not-true, not-false, le-leb, lt-leb, eq-eqb, ne_eqb}
+use borrow.Author.Tests.{le-leb, lt-leb, eq-eqb, ne_eqb}
 use Rattle.state.specs.Early.{refusal_of}
 use Rattle.state.proofs.early.early_hand.Goals as goal
 

@@ -1,5 +1,4 @@
 -- `state::early::elsewhere` meets its contract: one call of `location_at`, and the definition's test.
-use borrow.Author.Rules.{rules}
 use Rattle.state.specs.Early.{is_elsewhere}
 use Rattle.state.proofs.early.elsewhere.Goals as goal
 

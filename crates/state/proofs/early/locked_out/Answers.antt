@@ -1,5 +1,4 @@
 -- `state::early::locked_out` meets its contract: the tests of the definition in its order.
-use borrow.Author.Rules.{rules}
 use borrow.Author.Tests.{eq-eqb, ne_eqb}
 use Rattle.state.specs.Early.{locked_out}
 use Rattle.state.proofs.early.locked_out.Goals as goal

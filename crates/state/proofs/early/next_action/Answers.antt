@@ -1,5 +1,4 @@
 -- `state::early::next_action` meets its contract: one call of `action_at`.
-use borrow.Author.Rules.{rules}
 use Rattle.state.specs.Early.{next_action}
 use Rattle.state.proofs.early.next_action.Goals as goal
 

@@ -1,6 +1,4 @@
 -- `state::ended::ended_both` meets its contract: the tests of the definition, the sender's first.
-use borrow.Author.Rules.{rules}
-use borrow.Author.Tests.{not-false, not-true}
 use Rattle.state.specs.Ended.{ended_both}
 use Rattle.state.proofs.ended.ended_both.Goals as goal
 

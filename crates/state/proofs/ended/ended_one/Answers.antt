@@ -1,5 +1,4 @@
 -- `state::ended::ended_one` meets its contract: the test of the definition.
-use borrow.Author.Rules.{rules}
 use Rattle.state.specs.Ended.{ended_one}
 use Rattle.state.proofs.ended.ended_one.Goals as goal
 

@@ -1,5 +1,4 @@
 -- `state::launch::is_dynamic` meets its contract: the two tests of the definition.
-use borrow.Author.Rules.{rules}
 use borrow.Author.Tests.{eq-eqb, ne_eqb}
 use Rattle.state.specs.Launch.{is_dynamic}
 use Rattle.state.proofs.launch.is_dynamic.Goals as goal

@@ -1,5 +1,4 @@
 -- `state::launch::lock_launched` meets its contract: the one test of the definition.
-use borrow.Author.Rules.{rules}
 use Rattle.state.specs.Launch.{lock_launched}
 use Rattle.state.proofs.launch.lock_launched.Goals as goal
 

@@ -1,9 +1,5 @@
-use Prim.Native.Nat.{◌-◌, ◌≤◌}
-use mathlib.Core.List.{◌++◌}
-use mathlib.Core.Path.{◌≡◌, refl, sym, ◌∙◌}
+use mathlib.Core.Path.{refl, sym, ◌∙◌}
 use native.Mathlib.Omega.{arith}
-use lib.ListN.{length, take, drop}
-use Rattle.state.specs.Each.{each2}
 use Rattle.state.specs.Launch.{lock_launched, locks_launched}
 use Rattle.state.proofs.Loops.{each_more, each_end}
 use borrow.Author.Rules.{rules}

@@ -1,5 +1,4 @@
 -- `state::launch::thread_launched` meets its contract: the callees' answers.
-use borrow.Author.Rules.{rules}
 use Rattle.state.specs.Launch.{thread_launched}
 use Rattle.state.proofs.launch.thread_launched.Goals as goal
 

@@ -1,5 +1,4 @@
 -- `state::lock::held_by` meets its contract: one call of `pack_lock`.
-use borrow.Author.Rules.{rules}
 use Rattle.state.specs.Lock.{held_by}
 use Rattle.state.proofs.lock.held_by.Goals as goal
 

@@ -1,5 +1,4 @@
 -- `state::lock::lock_at` meets its contract: the range test of the definition.
-use borrow.Author.Rules.{rules}
 use borrow.Author.Tests.{lt-ltb, le-ltb}
 use Rattle.state.specs.Lock.{lock_at}
 use Rattle.state.proofs.lock.lock_at.Goals as goal

@@ -1,5 +1,4 @@
 -- `state::lock::pack_lock` meets its contract: the sum fits since each part is below its width; the bit is 0 or 1.
-use borrow.Author.Rules.{rules}
 use Rattle.state.specs.Lock.{pack_lock}
 use Rattle.state.proofs.lock.pack_lock.Goals as goal
 

@@ -1,7 +1,6 @@
 -- `state::moves::is_last` meets its contract: the comparison of the definition; a length is below 256.
 use Prim.Native.Nat.{◌+◌}
 use native.Mathlib.Omega.{arith}
-use borrow.Author.Rules.{rules}
 use borrow.Author.Tests.{leb-false}
 use Rattle.state.specs.Moves.{is_last}
 use Rattle.state.proofs.moves.is_last.Goals as goal

@@ -1,5 +1,4 @@
 -- `state::moves::jumped` meets its contract: one call of `pack_slot`.
-use borrow.Author.Rules.{rules}
 use Rattle.state.specs.Moves.{jumped_to}
 use Rattle.state.proofs.moves.jumped.Goals as goal
 

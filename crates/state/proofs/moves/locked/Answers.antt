@@ -1,6 +1,5 @@
 -- `state::moves::locked` meets its contract: one arm for each op that changes a lock.
 use native.Mathlib.Omega.{arith}
-use borrow.Author.Rules.{rules}
 use borrow.Author.Tests.{ne_eqb}
 use Rattle.state.specs.Moves.{locked}
 use Rattle.state.proofs.moves.locked.Goals as goal

@@ -1,5 +1,4 @@
 -- `state::moves::nonce_after` meets its contract: the one test of the definition.
-use borrow.Author.Rules.{rules}
 use borrow.Author.Tests.{eq-eqb, ne_eqb}
 use Rattle.state.specs.Moves.{nonce_after}
 use Rattle.state.proofs.moves.nonce_after.Goals as goal

@@ -1,5 +1,4 @@
 -- `state::moves::with_lock` meets its contract: the range test of the definition.
-use borrow.Author.Rules.{rules}
 use borrow.Author.Tests.{le-ltb, lt-ltb}
 use Rattle.state.specs.Moves.{with_at}
 use Rattle.state.proofs.moves.with_lock.Goals as goal

@@ -1,5 +1,4 @@
 -- `state::reset::boot_thread` meets its contract: one call of `pack_slot`.
-use borrow.Author.Rules.{rules}
 use Rattle.state.specs.Reset.{boot_thread}
 use Rattle.state.proofs.reset.boot_thread.Goals as goal
 

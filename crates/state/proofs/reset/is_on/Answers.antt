@@ -1,5 +1,4 @@
 -- `state::reset::is_on` meets its contract: a slot that is all zero is not live; else the two tests of the definition.
-use borrow.Author.Rules.{rules}
 use Rattle.state.specs.Reset.{is_on}
 use Rattle.state.proofs.Live.{zero_free}
 use Rattle.state.proofs.reset.is_on.Goals as goal

@@ -1,6 +1,5 @@
 -- `state::reset::lock_reset` meets its contract: the tests of the definition.
-use borrow.Author.Rules.{rules}
-use borrow.Author.Tests.{eq-eqb, ne_eqb, not-false, not-true}
+use borrow.Author.Tests.{eq-eqb, ne_eqb}
 use Rattle.state.specs.Reset.{lock_reset}
 use Rattle.state.proofs.reset.lock_reset.Goals as goal
 

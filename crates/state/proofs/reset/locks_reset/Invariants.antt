@@ -2,13 +2,10 @@
 -- still to come. The measure is the locks left.
 use Prim.Native.Nat.{◌-◌, ◌≤◌}
 use mathlib.Core.List.{◌++◌}
-use mathlib.Core.Path.{◌≡◌, refl, sym, ◌∙◌}
-use native.Mathlib.Omega.{arith}
+use mathlib.Core.Path.{◌≡◌}
 use lib.ListN.{length, take, drop}
 use Rattle.state.specs.Each.{each2}
 use Rattle.state.specs.Reset.{lock_reset, locks_reset}
-use Rattle.state.proofs.Loops.{each_more, each_end}
-use borrow.Author.Rules.{rules}
 use Rattle.state.proofs.reset.locks_reset.Given as goal
 
 abbrev pub invariant-loop-i : goal.invariant-loop-i

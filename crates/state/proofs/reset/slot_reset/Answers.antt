@@ -1,5 +1,4 @@
 -- `state::reset::slot_reset` meets its contract: the one test of the definition.
-use borrow.Author.Rules.{rules}
 use Rattle.state.specs.Reset.{slot_reset}
 use Rattle.state.proofs.reset.slot_reset.Goals as goal
 

@@ -1,5 +1,4 @@
 -- `state::reset::slots_booted` meets its contract: the callees' answers put into the definition.
-use borrow.Author.Rules.{rules}
 use Rattle.state.proofs.reset.slots_booted.Goals as goal
 
 pub returns : goal.returns

@@ -2,12 +2,9 @@
 -- still to come. The measure is the slots left.
 use Prim.Native.Nat.{◌-◌, ◌≤◌}
 use mathlib.Core.List.{◌++◌, map}
-use mathlib.Core.Path.{◌≡◌, refl, sym, ◌∙◌}
-use native.Mathlib.Omega.{arith}
+use mathlib.Core.Path.{◌≡◌}
 use lib.ListN.{length, take, drop}
 use Rattle.state.specs.Reset.{slot_reset, slots_reset}
-use Rattle.state.proofs.Loops.{map_more, map_end}
-use borrow.Author.Rules.{rules}
 use Rattle.state.proofs.reset.slots_reset.Given as goal
 
 abbrev pub invariant-loop-i : goal.invariant-loop-i

@@ -1,7 +1,5 @@
-use Prim.Native.Nat.{◌-◌}
-use mathlib.Core.Path.{◌≡◌, refl}
+use mathlib.Core.Path.{refl}
 use borrow.Author.Rules.{rules}
-use Rattle.state.specs.Seek.{next_sender}
 use Rattle.state.proofs.Sought.{sender_more, sender_end}
 use Rattle.state.proofs.seek.next_sender.Goals as goal
 

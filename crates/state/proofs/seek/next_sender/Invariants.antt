@@ -1,10 +1,8 @@
 -- `state::seek::next_sender` meets its contract: the loop keeps that the next sender from the start on is the next from
 -- this slot on. The measure is the slots left.
 use Prim.Native.Nat.{◌-◌}
-use mathlib.Core.Path.{◌≡◌, refl}
-use borrow.Author.Rules.{rules}
+use mathlib.Core.Path.{◌≡◌}
 use Rattle.state.specs.Seek.{next_sender}
-use Rattle.state.proofs.Sought.{sender_more, sender_end}
 use Rattle.state.proofs.seek.next_sender.Given as goal
 
 abbrev pub invariant-loop-i : goal.invariant-loop-i

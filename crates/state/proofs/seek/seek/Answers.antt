@@ -1,8 +1,5 @@
-use Prim.Native.Nat.{◌-◌}
-use mathlib.Core.Path.{◌≡◌, refl, sym, ◌∙◌}
-use borrow.Author.Rules.{rules}
+use mathlib.Core.Path.{refl, sym, ◌∙◌}
 use Rattle.state.specs.Early.{sight}
-use Rattle.state.specs.Seek.{seek_from}
 use Rattle.state.proofs.Sought.{seek_end, seek_let, refused_none, seek_turn}
 use Rattle.state.proofs.seek.seek.Goals as goal
 

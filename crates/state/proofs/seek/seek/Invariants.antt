@@ -1,11 +1,9 @@
 -- `state::seek::seek` meets its contract: the loop keeps that seeking from the start gives what seeking from
 -- this number on gives. The measure is the numbers left.
 use Prim.Native.Nat.{◌-◌}
-use mathlib.Core.Path.{◌≡◌, refl, sym, ◌∙◌}
-use borrow.Author.Rules.{rules}
+use mathlib.Core.Path.{◌≡◌}
 use Rattle.state.specs.Early.{sight}
 use Rattle.state.specs.Seek.{seek_from}
-use Rattle.state.proofs.Sought.{seek_end, seek_let, refused_none, seek_turn}
 use Rattle.state.proofs.seek.seek.Given as goal
 
 abbrev pub invariant-loop-code : goal.invariant-loop-code

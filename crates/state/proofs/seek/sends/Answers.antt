@@ -1,5 +1,4 @@
 -- `state::seek::sends` meets its contract: empty, or the definition's test on the next action.
-use borrow.Author.Rules.{rules}
 use borrow.Author.Tests.{not-true, not-false}
 use Rattle.state.specs.Seek.{sends}
 use Rattle.state.proofs.seek.sends.Goals as goal

@@ -1,10 +1,8 @@
-use Prim.Native.Nat.{◌-◌, ◌≤◌}
-use mathlib.Core.Path.{◌≡◌, refl, sym, ◌∙◌}
+use mathlib.Core.Path.{refl, sym, ◌∙◌}
 use native.Mathlib.Omega.{arith}
-use lib.ListN.{length, drop}
 use borrow.Author.Rules.{rules}
 use borrow.Author.Tests.{not-true, not-false}
-use Rattle.state.specs.Slot.{lowest_in, lowest_free}
+use Rattle.state.specs.Slot.{lowest_free}
 use Rattle.state.proofs.Laws.{lowest_here, lowest_on, lowest_end}
 use Rattle.state.proofs.slot.lowest_free.Goals as goal
 

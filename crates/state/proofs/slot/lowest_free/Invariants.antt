@@ -1,13 +1,9 @@
 -- `state::slot::lowest_free` meets its contract: the loop keeps that looking from the start gives what looking from
 -- slot i on gives. The measure is the slots left.
 use Prim.Native.Nat.{◌-◌, ◌≤◌}
-use mathlib.Core.Path.{◌≡◌, refl, sym, ◌∙◌}
-use native.Mathlib.Omega.{arith}
+use mathlib.Core.Path.{◌≡◌}
 use lib.ListN.{length, drop}
-use borrow.Author.Rules.{rules}
-use borrow.Author.Tests.{not-true, not-false}
 use Rattle.state.specs.Slot.{lowest_in, lowest_free}
-use Rattle.state.proofs.Laws.{lowest_here, lowest_on, lowest_end}
 use Rattle.state.proofs.slot.lowest_free.Given as goal
 
 abbrev pub invariant-loop-i : goal.invariant-loop-i

@@ -1,5 +1,4 @@
 -- `state::slot::pack_slot` meets its contract: the sum fits since each part is below its width; the bit is 0 or 1.
-use borrow.Author.Rules.{rules}
 use Rattle.state.specs.Slot.{pack_slot}
 use Rattle.state.proofs.slot.pack_slot.Goals as goal
 

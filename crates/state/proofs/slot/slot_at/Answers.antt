@@ -1,5 +1,4 @@
 -- `state::slot::slot_at` meets its contract: the range test of the definition.
-use borrow.Author.Rules.{rules}
 use borrow.Author.Tests.{lt-ltb, le-ltb}
 use Rattle.state.specs.Slot.{slot_at}
 use Rattle.state.proofs.slot.slot_at.Goals as goal

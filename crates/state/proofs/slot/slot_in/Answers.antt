@@ -1,6 +1,5 @@
 -- `state::slot::slot_in` meets its contract: the definition word for word; each remainder fits its field.
 use mathlib.Core.Path.{refl}
-use borrow.Author.Rules.{rules}
 use Rattle.state.specs.Slot.{slot_in}
 use Rattle.state.proofs.slot.slot_in.Goals as goal
 

@@ -1,7 +1,6 @@
 -- `terms::entry::above_one` meets its contract: the line of the part gives the grade.
 use Rattle.terms.proofs.Laws.{tests}
 use Rattle.terms.specs.Entry.{enter_above}
-use borrow.Author.Rules.{rules}
 use Rattle.terms.proofs.entry.above_one.Goals as goal
 
 pub returns : goal.returns

@@ -1,7 +1,6 @@
 -- `terms::entry::above_two` meets its contract: the lines of both parts give the grade, the later part where to look.
 use Rattle.terms.proofs.Laws.{tests}
 use Rattle.terms.specs.Entry.{enter_above_both}
-use borrow.Author.Rules.{rules}
 use Rattle.terms.proofs.entry.above_two.Goals as goal
 
 pub returns : goal.returns

@@ -1,6 +1,5 @@
 -- `terms::entry::add` meets its contract: what came of it is told from the answer.
 use Rattle.terms.proofs.Answers.{told_added}
-use borrow.Author.Rules.{rules}
 use Rattle.terms.proofs.entry.add.Goals as goal
 
 pub returns : goal.returns

@@ -3,7 +3,6 @@ use Rattle.terms.specs.Term.{after_parts}
 use Rattle.terms.specs.Grade.{grade_of}
 use Rattle.terms.specs.Entry.{enter_above, enter_above_both}
 use Rattle.terms.proofs.Answers.{enter_as}
-use borrow.Author.Rules.{rules}
 use Rattle.terms.proofs.entry.entered.Goals as goal
 
 pub returns-in-Bare : goal.returns-in-Bare

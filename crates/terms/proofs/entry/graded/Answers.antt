@@ -1,7 +1,6 @@
 -- `terms::entry::graded` meets its contract: the depth, then the lookup, then the room, as `enter_from` has them.
 use borrow.Author.Tests.{lt-ltb, le-ltb, eq-eqb, ne_eqb}
 use Rattle.terms.specs.Entry.{enter_from}
-use borrow.Author.Rules.{rules}
 use Rattle.terms.proofs.entry.graded.Goals as goal
 
 pub returns-then-g-gt-DEPTH : goal.returns-then-g-gt-DEPTH

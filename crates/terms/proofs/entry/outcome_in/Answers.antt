@@ -2,7 +2,6 @@
 use Rattle.terms.proofs.Laws.{tests}
 use Rattle.terms.specs.Subbed.{subbed_in}
 use Rattle.terms.specs.Entry.{outcome_in}
-use borrow.Author.Rules.{rules}
 use Rattle.terms.proofs.entry.outcome_in.Goals as goal
 
 pub returns-then-count_in-count : goal.returns-then-count_in-count

@@ -1,5 +1,4 @@
 -- `terms::grade::above` meets its contract: the callees' answers put into the definition.
-use borrow.Author.Rules.{rules}
 use Rattle.terms.specs.Grade.{above_line}
 use Rattle.terms.proofs.grade.above.Goals as goal
 

@@ -1,5 +1,4 @@
 -- `terms::grade::above_both` meets its contract: the callees' answers put into the definition.
-use borrow.Author.Rules.{rules}
 use Rattle.terms.specs.Grade.{above_both}
 use Rattle.terms.proofs.grade.above_both.Goals as goal
 

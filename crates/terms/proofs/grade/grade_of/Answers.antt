@@ -1,7 +1,6 @@
 -- `terms::grade::grade_of` meets its contract: one case for each shape.
 use Rattle.terms.proofs.Laws.{tests}
 use Rattle.terms.specs.Grade.{grade_of}
-use borrow.Author.Rules.{rules}
 use Rattle.terms.proofs.grade.grade_of.Goals as goal
 
 pub returns-in-Bare : goal.returns-in-Bare

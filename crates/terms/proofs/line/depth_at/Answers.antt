@@ -1,5 +1,4 @@
 -- `terms::line::depth_at` meets its contract: the line at the label, read.
-use borrow.Author.Rules.{rules}
 use Rattle.terms.proofs.line.depth_at.Goals as goal
 
 pub returns : goal.returns

@@ -1,6 +1,5 @@
 -- `terms::line::depth_in` meets its contract: the definition word for word.
 use mathlib.Core.Path.{refl}
-use borrow.Author.Rules.{rules}
 use Rattle.terms.specs.Line.{depth_in}
 use Rattle.terms.proofs.line.depth_in.Goals as goal
 

@@ -1,5 +1,4 @@
 -- `terms::line::term_at` meets its contract: the line at the label, read.
-use borrow.Author.Rules.{rules}
 use Rattle.terms.proofs.line.term_at.Goals as goal
 
 pub returns : goal.returns

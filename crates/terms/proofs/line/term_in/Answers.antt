@@ -1,6 +1,5 @@
 -- `terms::line::term_in` meets its contract: the definition word for word; each remainder fits its field.
 use mathlib.Core.Path.{refl}
-use borrow.Author.Rules.{rules}
 use Rattle.terms.specs.Line.{term_in}
 use Rattle.terms.proofs.line.term_in.Goals as goal
 

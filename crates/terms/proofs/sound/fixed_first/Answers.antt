@@ -1,6 +1,5 @@
 -- `terms::sound::fixed_first` meets its contract: three comparisons, as in the definition.
 use borrow.Author.Tests.{ne_eqb, eq-eqb}
-use borrow.Author.Rules.{rules}
 use Rattle.terms.specs.Sound.{fixed_first}
 use Rattle.terms.proofs.sound.fixed_first.Goals as goal
 

@@ -1,7 +1,6 @@
 -- `terms::sound::line_sound` meets its contract: the refusals of the definition in its order; the last question is
 -- whether an earlier line is alike.
-use borrow.Author.Tests.{lt-ltb, le-ltb, ne_eqb, eq-eqb, not-true, not-false}
-use borrow.Author.Rules.{rules}
+use borrow.Author.Tests.{lt-ltb, le-ltb, ne_eqb, eq-eqb}
 use Rattle.terms.specs.Sound.{line_sound}
 use Rattle.terms.proofs.sound.line_sound.Goals as goal
 

@@ -1,10 +1,4 @@
-use Prim.Native.Nat.{◌-◌}
-use mathlib.Core.Path.{◌≡◌}
 use native.Mathlib.Nat.{sub-zero}
-use borrow.Author.Rules.{rules}
-use borrow.Author.Tests.{not-true, not-false}
-use Rattle.terms.specs.Each.{all_from, each}
-use Rattle.terms.specs.Sound.{line_sound}
 use Rattle.terms.proofs.Each.{all_more, all_end}
 use Rattle.terms.proofs.sound.lines_sound.Goals as goal
 

@@ -2,12 +2,8 @@
 -- on are. The measure is the lines left.
 use Prim.Native.Nat.{◌-◌}
 use mathlib.Core.Path.{◌≡◌}
-use native.Mathlib.Nat.{sub-zero}
-use borrow.Author.Rules.{rules}
-use borrow.Author.Tests.{not-true, not-false}
 use Rattle.terms.specs.Each.{all_from, each}
 use Rattle.terms.specs.Sound.{line_sound}
-use Rattle.terms.proofs.Each.{all_more, all_end}
 use Rattle.terms.proofs.sound.lines_sound.Given as goal
 
 abbrev pub invariant-loop-i : goal.invariant-loop-i

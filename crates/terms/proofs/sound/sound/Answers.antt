@@ -1,6 +1,5 @@
 -- `terms::sound::sound` meets its contract: the refusals of the definition in its order.
-use borrow.Author.Tests.{lt-ltb, le-ltb, not-true, not-false}
-use borrow.Author.Rules.{rules}
+use borrow.Author.Tests.{lt-ltb, le-ltb}
 use Rattle.terms.specs.Sound.{sound_test}
 use Rattle.terms.proofs.sound.sound.Goals as goal
 

@@ -1,10 +1,6 @@
-use Prim.Native.Nat.{◌-◌}
-use mathlib.Core.Path.{◌≡◌, refl}
+use mathlib.Core.Path.{refl}
 use native.Mathlib.Omega.{arith}
-use lib.ListN.{length, drop}
-use borrow.Author.Rules.{rules}
 use borrow.Author.Tests.{eq-eqb, ne_eqb}
-use Rattle.terms.specs.Sound.{all_zero}
 use Rattle.terms.proofs.Laws.{zero_more, zero_end}
 use Rattle.terms.proofs.sound.zero_past.Goals as goal
 

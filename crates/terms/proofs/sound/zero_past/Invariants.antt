@@ -1,13 +1,9 @@
 -- `terms::sound::zero_past` meets its contract: the loop keeps that all lines past the count are zero exactly when
 -- those from i on are. The measure is the lines left.
 use Prim.Native.Nat.{◌-◌}
-use mathlib.Core.Path.{◌≡◌, refl}
-use native.Mathlib.Omega.{arith}
+use mathlib.Core.Path.{◌≡◌}
 use lib.ListN.{length, drop}
-use borrow.Author.Rules.{rules}
-use borrow.Author.Tests.{eq-eqb, ne_eqb}
 use Rattle.terms.specs.Sound.{all_zero}
-use Rattle.terms.proofs.Laws.{zero_more, zero_end}
 use Rattle.terms.proofs.sound.zero_past.Given as goal
 
 abbrev pub invariant-loop-i : goal.invariant-loop-i

@@ -1,7 +1,6 @@
 -- `terms::subbed::label_in` meets its contract: the definition word for word.
 use mathlib.Core.Path.{refl}
 use Rattle.terms.specs.Subbed.{label_in}
-use borrow.Author.Rules.{rules}
 use Rattle.terms.proofs.subbed.label_in.Goals as goal
 
 pub returns : goal.returns

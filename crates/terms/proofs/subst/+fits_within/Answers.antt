@@ -1,7 +1,5 @@
 -- `terms::subst::fits_within` meets its contract: one step down is `fits_step`, no room is `fits_zero`. The measure
 -- is the room.
-use Prim.Native.Nat.{ℕ, ◌<◌}
-use borrow.Author.Rules.{rules}
 use Rattle.terms.proofs.Laws.{fits_zero, fits_step}
 use Rattle.terms.proofs.subst.+fits_within.Goals as goal
 

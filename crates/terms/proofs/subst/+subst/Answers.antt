@@ -1,5 +1,3 @@
-use borrow.Author.Rules.{rules}
-use Prim.Native.Nat.{ℕ, ◌<◌}
 use Rattle.terms.proofs.Laws.{subst_zero, subst_step}
 use Rattle.terms.proofs.Answers.{answer_with, then_without}
 use Rattle.terms.proofs.subst.+subst.Goals as goal

@@ -1,7 +1,5 @@
 -- `terms::subst::deep_or_full` meets its contract: both depths, as in the definition.
-use borrow.Author.Tests.{not-true, not-false}
 use Rattle.terms.specs.Subst.{deep_or_full}
-use borrow.Author.Rules.{rules}
 use Rattle.terms.proofs.subst.deep_or_full.Goals as goal
 
 pub returns-then-not-fits_within : goal.returns-then-not-fits_within

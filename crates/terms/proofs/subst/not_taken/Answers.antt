@@ -1,6 +1,5 @@
 -- `terms::subst::not_taken` meets its contract: one test, as in the definition.
 use Rattle.terms.specs.Subst.{not_taken}
-use borrow.Author.Rules.{rules}
 use Rattle.terms.proofs.subst.not_taken.Goals as goal
 
 pub returns-then-is_deep : goal.returns-then-is_deep

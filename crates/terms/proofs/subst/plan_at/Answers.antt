@@ -1,5 +1,4 @@
 -- `terms::subst::plan_at` meets its contract: ground, or by the shape.
-use borrow.Author.Rules.{rules}
 use Rattle.terms.specs.Subst.{plan_at}
 use Rattle.terms.proofs.subst.plan_at.Goals as goal
 

@@ -1,7 +1,6 @@
 -- `terms::subst::second_operand` meets its contract: a label, or why there is none.
 use Rattle.terms.specs.Subst.{second_operand}
 use Rattle.terms.proofs.Answers.{answer_with, operand_without}
-use borrow.Author.Rules.{rules}
 use Rattle.terms.proofs.subst.second_operand.Goals as goal
 
 pub returns-then-has_label : goal.returns-then-has_label

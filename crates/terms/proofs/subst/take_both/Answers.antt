@@ -1,7 +1,6 @@
 -- `terms::subst::take_both` meets its contract: both substitutions, as in the definition.
 use Rattle.terms.specs.Subst.{take_both}
 use Rattle.terms.proofs.Answers.{answer_with, operands_without}
-use borrow.Author.Rules.{rules}
 use Rattle.terms.proofs.subst.take_both.Goals as goal
 
 pub returns-then-has_label : goal.returns-then-has_label

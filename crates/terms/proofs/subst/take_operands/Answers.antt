@@ -1,6 +1,5 @@
 -- `terms::subst::take_operands` meets its contract: what came of both walks, and the table cut back where that is a refusal.
 use Rattle.terms.specs.Subst.{take_operands}
-use borrow.Author.Rules.{rules}
 use Rattle.terms.proofs.subst.take_operands.Goals as goal
 
 pub returns-in-Labels : goal.returns-in-Labels

@@ -1,7 +1,6 @@
 -- `terms::subst::with_both` meets its contract: as `with_first`; an answer without a label is handed on.
 use Rattle.terms.specs.Subst.{with_both}
 use Rattle.terms.proofs.Answers.{answer_with, both_without}
-use borrow.Author.Rules.{rules}
 use Rattle.terms.proofs.subst.with_both.Goals as goal
 
 pub returns-then-has_label : goal.returns-then-has_label

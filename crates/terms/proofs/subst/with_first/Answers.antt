@@ -1,7 +1,6 @@
 -- `terms::subst::with_first` meets its contract: the old term's other fields are read and the new one is entered; an answer without a label is handed on.
 use Rattle.terms.specs.Subst.{with_first}
 use Rattle.terms.proofs.Answers.{answer_with, first_without}
-use borrow.Author.Rules.{rules}
 use Rattle.terms.proofs.subst.with_first.Goals as goal
 
 pub returns-then-has_label : goal.returns-then-has_label

@@ -1,7 +1,5 @@
-use Prim.Native.Nat.{◌-◌, ◌≤◌}
-use mathlib.Core.Path.{◌≡◌, ◌∙◌}
+use mathlib.Core.Path.{◌∙◌}
 use borrow.Author.Rules.{rules}
-use Rattle.terms.specs.Base.{filled}
 use Rattle.terms.specs.Table.{cut_to}
 use Rattle.terms.proofs.Laws.{fill_more, fill_end}
 use Rattle.terms.proofs.table.cut.Goals as goal

@@ -1,11 +1,9 @@
 -- `terms::table::cut` meets its contract: the loop keeps that cutting gives what filling with zero from line i on gives. The
 -- measure is the lines left.
 use Prim.Native.Nat.{◌-◌, ◌≤◌}
-use mathlib.Core.Path.{◌≡◌, ◌∙◌}
-use borrow.Author.Rules.{rules}
+use mathlib.Core.Path.{◌≡◌}
 use Rattle.terms.specs.Base.{filled}
 use Rattle.terms.specs.Table.{cut_to}
-use Rattle.terms.proofs.Laws.{fill_more, fill_end}
 use Rattle.terms.proofs.table.cut.Given as goal
 
 abbrev pub invariant-loop-i : goal.invariant-loop-i

@@ -1,6 +1,5 @@
 -- `terms::table::find` meets its contract: too deep, or the callee's answer.
 use borrow.Author.Tests.{lt-ltb, le-ltb}
-use borrow.Author.Rules.{rules}
 use Rattle.terms.specs.Table.{find_term}
 use Rattle.terms.proofs.table.find.Goals as goal
 

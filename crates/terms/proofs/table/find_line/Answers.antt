@@ -1,9 +1,7 @@
-use Prim.Native.Nat.{◌-◌, ◌≤◌}
-use mathlib.Core.Path.{◌≡◌, refl, ◌∙◌, sym}
+use mathlib.Core.Path.{refl, ◌∙◌, sym}
 use native.Mathlib.Omega.{arith}
-use lib.ListN.{length, take, drop}
 use borrow.Author.Rules.{rules}
-use Rattle.terms.specs.Table.{find_in, find_line}
+use Rattle.terms.specs.Table.{find_line}
 use Rattle.terms.proofs.Laws.{used_long, find_hit, find_miss, find_end}
 use Rattle.terms.proofs.table.find_line.Goals as goal
 

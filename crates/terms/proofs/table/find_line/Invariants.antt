@@ -1,12 +1,9 @@
 -- `terms::table::find_line` meets its contract: the loop keeps that looking from the first label on gives what looking
 -- from line i on gives. The measure is the lines left.
 use Prim.Native.Nat.{◌-◌, ◌≤◌}
-use mathlib.Core.Path.{◌≡◌, refl, ◌∙◌, sym}
-use native.Mathlib.Omega.{arith}
+use mathlib.Core.Path.{◌≡◌}
 use lib.ListN.{length, take, drop}
-use borrow.Author.Rules.{rules}
 use Rattle.terms.specs.Table.{find_in, find_line}
-use Rattle.terms.proofs.Laws.{used_long, find_hit, find_miss, find_end}
 use Rattle.terms.proofs.table.find_line.Given as goal
 
 abbrev pub invariant-loop-i : goal.invariant-loop-i

@@ -1,5 +1,4 @@
 -- `terms::table::fixed_line` meets its contract: one call of `pack`.
-use borrow.Author.Rules.{rules}
 use Rattle.terms.specs.Table.{fixed_line}
 use Rattle.terms.proofs.table.fixed_line.Goals as goal
 

@@ -1,5 +1,4 @@
 -- `terms::table::free_entries` meets its contract: the test of the definition, and the bound that `add` needs for its index.
-use borrow.Author.Rules.{rules}
 use native.Mathlib.Omega.{arith}
 use Rattle.terms.specs.Table.{free_of}
 use Rattle.terms.proofs.Laws.{tests}

@@ -1,7 +1,6 @@
 -- `terms::term::after_parts` meets its contract: by the shape, as the definition does.
 use Rattle.terms.proofs.Laws.{tests}
 use Rattle.terms.specs.Term.{after_parts}
-use borrow.Author.Rules.{rules}
 use Rattle.terms.proofs.term.after_parts.Goals as goal
 
 pub returns-in-Bare : goal.returns-in-Bare

@@ -1,5 +1,4 @@
 -- `terms::term::in_limits` meets its contract: by the shape, whose test is the callee's or a comparison of the code.
-use borrow.Author.Rules.{rules}
 use Rattle.terms.specs.Term.{in_limits}
 use Rattle.terms.proofs.term.in_limits.Goals as goal
 

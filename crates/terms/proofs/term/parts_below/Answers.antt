@@ -1,5 +1,4 @@
 -- `terms::term::parts_below` meets its contract: by the shape, as the definition does.
-use borrow.Author.Rules.{rules}
 use Rattle.terms.specs.Term.{parts_below}
 use Rattle.terms.proofs.term.parts_below.Goals as goal
 

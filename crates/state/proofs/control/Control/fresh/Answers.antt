@@ -1,5 +1,4 @@
 -- `state::control::Control::fresh` meets its contract: the two lists are the callees' answers.
-use borrow.Author.Rules.{rules}
 use Rattle.state.specs.Control.{fresh_frame, fresh_control}
 use Rattle.state.proofs.control.Control.fresh.Goals as goal
 

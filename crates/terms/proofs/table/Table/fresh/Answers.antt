@@ -1,5 +1,4 @@
 -- `terms::table::Table::fresh` meets its contract: three stores of three callees' answers.
-use borrow.Author.Rules.{rules}
 use Rattle.terms.specs.Table.{fresh_table}
 use Rattle.terms.proofs.table.Table.fresh.Goals as goal
 
