@@ -1,5 +1,4 @@
 -- `machine::claim::accepts` meets its contract: three numbers of the record, judged by the core.
-use borrow.Author.Rules.{rules}
 use Rattle.machine.specs.Judge.{accepts_at}
 use Rattle.machine.proofs.claim.accepts.Goals as goal
 

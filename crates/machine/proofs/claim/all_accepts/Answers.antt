@@ -1,9 +1,6 @@
-use Prim.Native.Nat.{◌+◌, ◌*◌, ◌-◌, ◌≤◌}
-use mathlib.Core.Path.{◌≡◌}
 use native.Mathlib.Nat.{sub-zero, zero-add, add-zero, add_assoc}
 use borrow.Author.Rules.{rules}
-use Rattle.rules.specs.Event.{number_at}
-use Rattle.machine.specs.Judge.{sum_from, accepts_on}
+use Rattle.machine.specs.Judge.{accepts_on}
 use Rattle.machine.proofs.Loops.{sum_more, sum_end}
 use Rattle.machine.proofs.claim.all_accepts.Goals as goal
 
@@ -12,11 +9,10 @@ unfolding accepts_on
 loop-i-init c = (rw (sub-zero, zero-add), search rules)
 
 pub loop-i-preserved : goal.loop-i-preserved
-loop-i-preserved c =
-    (
-      rw (c.loop-i.invariant.0, sum_more _ c.loop-i.i _ c.loop-i-test.true, ← c.number_at-endings.ensures, add_assoc),
-      search rules,
-    )
+loop-i-preserved c = (
+  rw (c.loop-i.invariant.0, sum_more _ c.loop-i.i _ c.loop-i-test.true, ← c.number_at-endings.ensures, add_assoc),
+  search rules,
+)
 
 pub returns : goal.returns
 returns c =

@@ -2,11 +2,8 @@
 -- what is still to come. The measure is what is left.
 use Prim.Native.Nat.{◌+◌, ◌*◌, ◌-◌, ◌≤◌}
 use mathlib.Core.Path.{◌≡◌}
-use native.Mathlib.Nat.{sub-zero, zero-add, add-zero, add_assoc}
-use borrow.Author.Rules.{rules}
 use Rattle.rules.specs.Event.{number_at}
 use Rattle.machine.specs.Judge.{sum_from, accepts_on}
-use Rattle.machine.proofs.Loops.{sum_more, sum_end}
 use Rattle.machine.proofs.claim.all_accepts.Given as goal
 
 abbrev pub invariant-loop-i : goal.invariant-loop-i

@@ -1,6 +1,4 @@
 -- `machine::claim::breaks` meets its contract: an accept of the claim's program, and the path not walked.
-use borrow.Author.Tests.{not-true, not-false}
-use borrow.Author.Rules.{rules}
 use Rattle.machine.specs.Judge.{breaks_on}
 use Rattle.machine.proofs.claim.breaks.Goals as goal
 

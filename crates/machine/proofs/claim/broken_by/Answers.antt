@@ -1,6 +1,4 @@
 -- `machine::claim::broken_by` meets its contract: an ending of the claim's program, and the path not walked.
-use borrow.Author.Tests.{not-true, not-false}
-use borrow.Author.Rules.{rules}
 use Rattle.machine.specs.Judge.{broken_by}
 use Rattle.machine.proofs.claim.broken_by.Goals as goal
 

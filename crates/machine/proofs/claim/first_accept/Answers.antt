@@ -1,11 +1,9 @@
-use Prim.Native.Nat.{◌-◌, ◌≤◌}
 use mathlib.Core.Path.{◌≡◌}
 use native.Mathlib.Nat.{sub-zero}
 use native.Mathlib.Omega.{arith}
 use borrow.Author.Rules.{rules}
-use Rattle.model.specs.First.{first_from}
 use Rattle.model.proofs.First.{first_more, first_end}
-use Rattle.machine.specs.Judge.{accepts_at, first_accept}
+use Rattle.machine.specs.Judge.{first_accept}
 use Rattle.machine.proofs.claim.first_accept.Goals as goal
 
 pub loop-i-init : goal.loop-i-init
@@ -17,11 +15,10 @@ returns-then-accepts c =
     rw (c.loop-i.invariant.0, first_more _ c.loop-i.i _ c.loop-i-test.true, ← c.accepts.ensures, c.if-accepts.true)
 
 pub loop-i-preserved : goal.loop-i-preserved
-loop-i-preserved c =
-    (
-      rw (c.loop-i.invariant.0, first_more _ c.loop-i.i _ c.loop-i-test.true, ← c.accepts.ensures, c.if-accepts.false),
-      search rules,
-    )
+loop-i-preserved c = (
+  rw (c.loop-i.invariant.0, first_more _ c.loop-i.i _ c.loop-i-test.true, ← c.accepts.ensures, c.if-accepts.false),
+  search rules,
+)
 
 pub returns : goal.returns
 returns c =

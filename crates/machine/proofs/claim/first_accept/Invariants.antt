@@ -2,11 +2,7 @@
 -- the present record on. The measure is what is left.
 use Prim.Native.Nat.{◌-◌, ◌≤◌}
 use mathlib.Core.Path.{◌≡◌}
-use native.Mathlib.Nat.{sub-zero}
-use native.Mathlib.Omega.{arith}
-use borrow.Author.Rules.{rules}
 use Rattle.model.specs.First.{first_from}
-use Rattle.model.proofs.First.{first_more, first_end}
 use Rattle.machine.specs.Judge.{accepts_at, first_accept}
 use Rattle.machine.proofs.claim.first_accept.Given as goal
 

@@ -1,6 +1,5 @@
 -- `machine::claim::first_break` meets its contract: only the first accept can break, as the definition says.
 use borrow.Author.Tests.{eq-eqb, ne_eqb}
-use borrow.Author.Rules.{rules}
 use Rattle.machine.specs.Judge.{first_break_on}
 use Rattle.machine.proofs.claim.first_break.Goals as goal
 

@@ -1,5 +1,4 @@
 -- `machine::claim::follow` meets its contract: three numbers of the record, judged by the core.
-use borrow.Author.Rules.{rules}
 use Rattle.machine.specs.Judge.{follow_at}
 use Rattle.machine.proofs.claim.follow.Goals as goal
 

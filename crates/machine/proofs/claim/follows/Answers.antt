@@ -1,8 +1,5 @@
-use Prim.Native.Nat.{◌-◌}
-use mathlib.Core.Path.{◌≡◌}
 use native.Mathlib.Nat.{sub-zero}
-use borrow.Author.Rules.{rules}
-use Rattle.machine.specs.Judge.{follow_from, follows_on}
+use Rattle.machine.specs.Judge.{follows_on}
 use Rattle.machine.proofs.Loops.{follow_more, follow_end}
 use Rattle.machine.proofs.claim.follows.Goals as goal
 

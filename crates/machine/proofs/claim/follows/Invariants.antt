@@ -2,10 +2,7 @@
 -- way over those left from where the thread is. The measure is what is left.
 use Prim.Native.Nat.{◌-◌}
 use mathlib.Core.Path.{◌≡◌}
-use native.Mathlib.Nat.{sub-zero}
-use borrow.Author.Rules.{rules}
-use Rattle.machine.specs.Judge.{follow_from, follows_on}
-use Rattle.machine.proofs.Loops.{follow_more, follow_end}
+use Rattle.machine.specs.Judge.{follow_from}
 use Rattle.machine.proofs.claim.follows.Given as goal
 
 abbrev pub invariant-loop-i : goal.invariant-loop-i

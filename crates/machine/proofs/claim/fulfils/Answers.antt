@@ -1,7 +1,5 @@
 -- `machine::claim::fulfils` meets its contract: the record makes a thread for the claim, and that thread follows the
 -- path.
-use borrow.Author.Tests.{not-true, not-false}
-use borrow.Author.Rules.{rules}
 use Rattle.machine.specs.Judge.{fulfils_at}
 use Rattle.machine.proofs.claim.fulfils.Goals as goal
 

@@ -1,5 +1,4 @@
 -- `machine::claim::makes` meets its contract: two numbers of the record, judged by the core.
-use borrow.Author.Rules.{rules}
 use Rattle.machine.specs.Judge.{makes_at}
 use Rattle.machine.proofs.claim.makes.Goals as goal
 

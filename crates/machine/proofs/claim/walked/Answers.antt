@@ -1,8 +1,5 @@
-use Prim.Native.Nat.{◌-◌}
-use mathlib.Core.Path.{◌≡◌}
 use native.Mathlib.Nat.{sub-zero}
-use borrow.Author.Rules.{rules}
-use Rattle.machine.specs.Judge.{any_from, fulfils_at, walked_on}
+use Rattle.machine.specs.Judge.{walked_on}
 use Rattle.machine.proofs.Loops.{any_more, any_end}
 use Rattle.machine.proofs.claim.walked.Goals as goal
 

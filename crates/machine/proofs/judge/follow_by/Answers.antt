@@ -1,7 +1,6 @@
 -- `machine::judge::follow_by` meets its contract: each early return is one test of the definition.
 use Rattle.terms.proofs.Laws.{tests}
 use Rattle.machine.specs.Judge.{follow_by}
-use borrow.Author.Rules.{rules}
 use Rattle.machine.proofs.judge.follow_by.Goals as goal
 
 pub returns-then-c-at : goal.returns-then-c-at

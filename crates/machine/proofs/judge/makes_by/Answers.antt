@@ -1,7 +1,6 @@
 -- `machine::judge::makes_by` meets its contract: op and machine, in the definition's order.
 use Rattle.terms.proofs.Laws.{tests}
 use Rattle.machine.specs.Judge.{makes_by}
-use borrow.Author.Rules.{rules}
 use Rattle.machine.proofs.judge.makes_by.Goals as goal
 
 pub returns-then-op-making : goal.returns-then-op-making

@@ -1,6 +1,5 @@
 -- `machine::judge::path_at` meets its contract: within the four places, or 0.
 use borrow.Author.Tests.{lt-ltb, le-ltb}
-use borrow.Author.Rules.{rules}
 use Rattle.machine.specs.Judge.{path_at}
 use Rattle.machine.proofs.judge.path_at.Goals as goal
 

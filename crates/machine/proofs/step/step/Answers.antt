@@ -1,6 +1,4 @@
 -- `machine::step::step` meets its contract: 11 where a test fails, else the inner step's answer.
-use borrow.Author.Tests.{not-true, not-false}
-use borrow.Author.Rules.{rules}
 use Rattle.machine.specs.Step.{step_checked}
 use Rattle.machine.proofs.step.step.Goals as goal
 

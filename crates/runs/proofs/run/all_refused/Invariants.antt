@@ -1,13 +1,9 @@
 -- `runs::run::all_refused` meets its contract: the loop keeps that filling all answers gives what filling those
 -- left gives. The measure is what is left.
 use Prim.Native.Nat.{◌-◌, ◌≤◌}
-use mathlib.Core.Path.{◌≡◌, refl, ◌∙◌}
-use native.Mathlib.Nat.{sub-zero}
-use lib.ListN.{length, length-set}
-use borrow.Author.Rules.{rules}
+use mathlib.Core.Path.{◌≡◌}
+use lib.ListN.{length}
 use Rattle.terms.specs.Base.{filled}
-use Rattle.terms.proofs.Laws.{fill_more, fill_end}
-use Rattle.runs.specs.Run.{all_refused}
 use Rattle.runs.proofs.run.all_refused.Given as goal
 
 abbrev pub invariant-loop-i : goal.invariant-loop-i

@@ -1,5 +1,4 @@
 -- `runs::run::one_turn` meets its contract: the step's answer, then what it makes of the run.
-use borrow.Author.Rules.{rules}
 use Rattle.runs.specs.Run.{one_turn}
 use Rattle.runs.proofs.run.one_turn.Goals as goal
 

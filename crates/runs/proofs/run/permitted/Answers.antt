@@ -1,6 +1,5 @@
 -- `runs::run::permitted` meets its contract: the table of records is full, or takes one more.
 use borrow.Author.Tests.{le-leb, lt-leb}
-use borrow.Author.Rules.{rules}
 use Rattle.runs.specs.Run.{permitted_on}
 use Rattle.runs.proofs.run.permitted.Goals as goal
 

@@ -1,6 +1,4 @@
 -- `runs::run::run` meets its contract: every code refused where a test fails, else the steps.
-use borrow.Author.Tests.{not-true, not-false}
-use borrow.Author.Rules.{rules}
 use Rattle.runs.specs.Run.{run_on}
 use Rattle.runs.proofs.run.run.Goals as goal
 

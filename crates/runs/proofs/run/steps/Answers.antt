@@ -1,11 +1,10 @@
-use Prim.Native.Nat.{◌-◌, ◌<◌, ◌≤◌}
+use Prim.Native.Nat.{◌<◌}
 use mathlib.Core.Path.{◌≡◌, refl, ap}
 use native.Mathlib.Omega.{arith}
-use lib.ListN.{length, take, drop, length-set}
+use lib.ListN.{length, length-set}
 use borrow.Author.Rules.{rules}
 use borrow.Author.Tests.{eq-eqb, ne_eqb}
-use Rattle.rules.specs.Made.{layout}
-use Rattle.runs.specs.Run.{steps_from, steps_on}
+use Rattle.runs.specs.Run.{steps_on}
 use Rattle.runs.proofs.Loops.{steps_more, steps_end}
 use Rattle.runs.proofs.run.steps.Goals as goal
 
@@ -32,20 +31,19 @@ returns-then-u-eq12 c =
     )
 
 pub loop-i-preserved : goal.loop-i-preserved
-loop-i-preserved c =
-    (
-      rw (
-        c.loop-i.invariant.0,
-        steps_more _ _ c.loop-i.i _ _ c.loop-i.t c.loop-i.answers c.loop-i.records c.loop-i.u.control c.loop-i.u.events c.loop-i-test.true c.loop-i.invariant.3,
-        ← c.one_turn-u.ensures,
-        ne_eqb _ _ c.if-u-eq12.false,
-      ),
-      rw length-set c.loop-i.invariant.1,
-      search rules,
-      c.loop-i.invariant.3,
-      c.loop-i.invariant.4,
-      search rules,
-    )
+loop-i-preserved c = (
+  rw (
+    c.loop-i.invariant.0,
+    steps_more _ _ c.loop-i.i _ _ c.loop-i.t c.loop-i.answers c.loop-i.records c.loop-i.u.control c.loop-i.u.events c.loop-i-test.true c.loop-i.invariant.3,
+    ← c.one_turn-u.ensures,
+    ne_eqb _ _ c.if-u-eq12.false,
+  ),
+  rw length-set c.loop-i.invariant.1,
+  search rules,
+  c.loop-i.invariant.3,
+  c.loop-i.invariant.4,
+  search rules,
+)
 
 pub returns : goal.returns
 unfolding steps_on

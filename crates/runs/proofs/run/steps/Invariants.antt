@@ -1,14 +1,10 @@
 -- `runs::run::steps` meets its contract: the loop keeps that the course from the first code on is the course of
 -- the codes left, and that the lent tables keep their lengths. The measure is the codes left.
-use Prim.Native.Nat.{◌-◌, ◌<◌, ◌≤◌}
-use mathlib.Core.Path.{◌≡◌, refl, ap}
-use native.Mathlib.Omega.{arith}
-use lib.ListN.{length, take, drop, length-set}
-use borrow.Author.Rules.{rules}
-use borrow.Author.Tests.{eq-eqb, ne_eqb}
+use Prim.Native.Nat.{◌-◌, ◌≤◌}
+use mathlib.Core.Path.{◌≡◌}
+use lib.ListN.{length, take, drop}
 use Rattle.rules.specs.Made.{layout}
-use Rattle.runs.specs.Run.{steps_from, steps_on}
-use Rattle.runs.proofs.Loops.{steps_more, steps_end}
+use Rattle.runs.specs.Run.{steps_from}
 use Rattle.runs.proofs.run.steps.Given as goal
 
 abbrev pub invariant-loop-i : goal.invariant-loop-i

@@ -1,5 +1,4 @@
 -- `runs::run::turn` meets its contract: refused or permitted, as the reply says.
-use borrow.Author.Rules.{rules}
 use Rattle.runs.specs.Run.{turn_on}
 use Rattle.runs.proofs.run.turn.Goals as goal
 
