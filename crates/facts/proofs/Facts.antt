@@ -1,7 +1,7 @@
 -- 'Twelve for the table' of document 01 is one theorem: each fact of specs/Twelve holds.
 use Prim.Native.Nat.{ℕ}
 use mathlib.Core.Bool.{true}
-use mathlib.Core.List.{List, [], ◌∷◌, ◌++◌}
+use mathlib.Core.List.{List, [], ◌∷◌}
 use mathlib.Core.Path.{◌≡◌, refl, sym, ap, ◌∙◌}
 use native.Mathlib.Omega.{arith}
 use lib.ListN.{length, get_or, replicate}
@@ -17,7 +17,7 @@ use Rattle.tries.specs.Labels.{labels}
 use Rattle.search.specs.Search.{bound_fits}
 use Rattle.search.specs.Shown.{Arrays}
 use Rattle.search.proofs.Promises.{same_tries}
-use Rattle.facts.specs.Models.{bare, extends, unlocks, hashes, chains}
+use Rattle.facts.specs.Models.{bare, hashes, chains}
 use Rattle.facts.specs.Said.{outcomes_from, outcomes, added_all, meaning, Lists}
 use Rattle.facts.specs.Twelve.{TwelveFacts}
 use Rattle.facts.proofs.Opened.{adding_open, trees_open}

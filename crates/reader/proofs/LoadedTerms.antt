@@ -8,7 +8,7 @@ use lib.Seq.{get_or-set_same, get_or-set_other}
 use Rattle.terms.specs.Line.{term_at, term_in}
 use Rattle.terms.specs.Table.{fresh_table}
 use Rattle.terms.specs.Tree.{kind_of}
-use Rattle.terms.specs.Meaning.{build, trees, tree_of, means, Den}
+use Rattle.terms.specs.Meaning.{trees, tree_of, means, Den}
 use Rattle.terms.specs.Promise.{Grows}
 use Rattle.terms.specs.declared.term.Term.{Term}
 use Rattle.terms.proofs.Check.{fresh_long, fresh_sound}

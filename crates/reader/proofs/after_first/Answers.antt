@@ -1,5 +1,4 @@
 -- `reader::after_first` meets its contract: refused by the second reading, or a model.
-use borrow.Author.Rules.{rules}
 use borrow.Author.Tests.{eq-eqb, ne_eqb}
 use Rattle.reader.proofs.after_first.Goals as goal
 

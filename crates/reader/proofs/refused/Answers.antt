@@ -1,5 +1,4 @@
 -- `reader::refused` meets its contract: the fields one by one, after its call.
-use borrow.Author.Rules.{rules}
 use Rattle.reader.specs.Load.{refused_with}
 use Rattle.reader.proofs.refused.Goals as goal
 

@@ -1,6 +1,5 @@
 -- `pages::answers::event_after` meets its contract: by the answer.
 use borrow.Author.Tests.{eq-eqb, ne_eqb}
-use borrow.Author.Rules.{rules}
 use Rattle.pages.specs.RunText.{event_after}
 use Rattle.pages.proofs.answers.event_after.Goals as goal
 

@@ -1,6 +1,5 @@
 -- `pages::answers::put_answer` meets its contract: by the answer.
 use borrow.Author.Tests.{eq-eqb, ne_eqb}
-use borrow.Author.Rules.{rules}
 use Rattle.pages.specs.RunText.{answer_line}
 use Rattle.pages.proofs.answers.put_answer.Goals as goal
 

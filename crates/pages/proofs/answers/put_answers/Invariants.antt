@@ -1,13 +1,10 @@
 -- `pages::answers::put_answers` meets its contract: the loop keeps that all lines written to the page as it came are
 -- the lines left written to the page as it is. The measure is the codes left.
 use Prim.Native.Nat.{◌-◌, ◌≤◌}
-use mathlib.Core.Path.{◌≡◌, refl}
-use native.Mathlib.Nat.{sub-zero}
+use mathlib.Core.Path.{◌≡◌}
 use lib.ListN.{length}
-use borrow.Author.Rules.{rules}
 use Rattle.lines.specs.Put.{written, put_all}
 use Rattle.pages.specs.RunText.{answers_text}
-use Rattle.pages.proofs.Texts.{answers_more, answers_end}
 use Rattle.pages.proofs.answers.put_answers.Given as goal
 
 abbrev pub invariant-loop-i : goal.invariant-loop-i

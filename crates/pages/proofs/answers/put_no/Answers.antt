@@ -1,5 +1,4 @@
 -- `pages::answers::put_no` meets its contract: four parts one after the other.
-use borrow.Author.Rules.{rules}
 use Rattle.lines.proofs.Puts.{put_then}
 use Rattle.pages.specs.RunText.{no_line}
 use Rattle.pages.proofs.answers.put_no.Goals as goal

@@ -1,5 +1,4 @@
 -- `pages::answers::put_ok` meets its contract: five parts one after the other.
-use borrow.Author.Rules.{rules}
 use Rattle.lines.proofs.Puts.{put_then}
 use Rattle.pages.specs.RunText.{ok_line}
 use Rattle.pages.proofs.answers.put_ok.Goals as goal

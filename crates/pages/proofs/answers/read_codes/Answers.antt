@@ -1,10 +1,7 @@
-use Prim.Native.Nat.{◌-◌, ◌≤◌}
-use mathlib.Core.Path.{◌≡◌, refl, sym, ◌∙◌}
-use lib.ListN.{length, drop}
+use mathlib.Core.Path.{refl, sym, ◌∙◌}
 use borrow.Author.Rules.{rules}
-use Rattle.lines.specs.Line.{lines_of}
 use Rattle.lines.proofs.Lines.{next_moves}
-use Rattle.pages.specs.RunText.{codes_of, codes_put, codes_read}
+use Rattle.pages.specs.RunText.{codes_read}
 use Rattle.pages.proofs.Texts.{line_more, line_end, code_put, code_none, code_full}
 use Rattle.pages.proofs.answers.read_codes.Goals as goal
 

@@ -1,13 +1,10 @@
 -- `pages::answers::read_codes` meets its contract: the loop keeps that reading all lines gives what reading those
 -- left gives. The measure is the bytes left.
 use Prim.Native.Nat.{◌-◌, ◌≤◌}
-use mathlib.Core.Path.{◌≡◌, refl, sym, ◌∙◌}
+use mathlib.Core.Path.{◌≡◌}
 use lib.ListN.{length, drop}
-use borrow.Author.Rules.{rules}
 use Rattle.lines.specs.Line.{lines_of}
-use Rattle.lines.proofs.Lines.{next_moves}
 use Rattle.pages.specs.RunText.{codes_of, codes_put, codes_read}
-use Rattle.pages.proofs.Texts.{line_more, line_end, code_put, code_none, code_full}
 use Rattle.pages.proofs.answers.read_codes.Given as goal
 
 abbrev pub invariant-loop-at : goal.invariant-loop-at

@@ -1,6 +1,5 @@
 -- `pages::answers::serial_of` meets its contract: by the op.
 use borrow.Author.Tests.{eq-eqb, ne_eqb}
-use borrow.Author.Rules.{rules}
 use Rattle.pages.specs.RunText.{serial_of}
 use Rattle.pages.proofs.answers.serial_of.Goals as goal
 

@@ -1,5 +1,4 @@
 -- `pages::lister::goes_on` meets its contract: by the kind.
-use borrow.Author.Rules.{rules}
 use Rattle.pages.specs.ListPage.{goes_on}
 use Rattle.pages.proofs.lister.goes_on.Goals as goal
 

@@ -1,5 +1,4 @@
 -- `pages::lister::list_page` meets its contract: a listing, then its lines and what stands after them.
-use borrow.Author.Rules.{rules}
 use Rattle.lines.proofs.Puts.{put_then}
 use Rattle.pages.specs.ListPage.{page_text, page_on}
 use Rattle.pages.proofs.lister.list_page.Goals as goal

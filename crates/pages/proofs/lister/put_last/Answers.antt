@@ -1,5 +1,4 @@
 -- `pages::lister::put_last` meets its contract: by the kind.
-use borrow.Author.Rules.{rules}
 use Rattle.lines.specs.Put.{put_all}
 use Rattle.pages.specs.ListPage.{last_text}
 use Rattle.pages.proofs.lister.put_last.Goals as goal

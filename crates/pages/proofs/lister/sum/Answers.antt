@@ -1,6 +1,5 @@
 -- `pages::lister::sum` meets its contract: by the one test.
 use borrow.Author.Tests.{le-leb, lt-leb}
-use borrow.Author.Rules.{rules}
 use Rattle.pages.specs.ListPage.{sum_of}
 use Rattle.pages.proofs.lister.sum.Goals as goal
 

@@ -1,5 +1,4 @@
 -- `pages::runner::run_page` meets its contract: a run, then its lines and the closing line.
-use borrow.Author.Rules.{rules}
 use Rattle.lines.proofs.Puts.{put_then}
 use Rattle.pages.specs.RunPage.{run_text, run_page_on}
 use Rattle.pages.proofs.runner.run_page.Goals as goal

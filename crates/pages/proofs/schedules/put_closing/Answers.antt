@@ -1,5 +1,4 @@
 -- `pages::schedules::put_closing` meets its contract: four parts one after the other.
-use borrow.Author.Rules.{rules}
 use Rattle.lines.proofs.Puts.{put_then}
 use Rattle.pages.specs.ListText.{closing_line}
 use Rattle.pages.proofs.schedules.put_closing.Goals as goal

@@ -1,13 +1,10 @@
 -- `pages::schedules::put_codes` meets its contract: the loop keeps that all codes written to the page as it came are
 -- the codes left written to the page as it is. The measure is the codes left.
 use Prim.Native.Nat.{◌+◌, ◌-◌, ◌≤◌}
-use mathlib.Core.Path.{◌≡◌, refl}
-use native.Mathlib.Nat.{sub-zero}
+use mathlib.Core.Path.{◌≡◌}
 use lib.ListN.{length}
-use borrow.Author.Rules.{rules}
 use Rattle.lines.specs.Put.{written, put_all}
 use Rattle.pages.specs.ListText.{codes_text}
-use Rattle.pages.proofs.Texts.{codes_more, codes_end}
 use Rattle.pages.proofs.schedules.put_codes.Given as goal
 
 abbrev pub invariant-loop-i : goal.invariant-loop-i

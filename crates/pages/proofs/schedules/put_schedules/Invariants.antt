@@ -1,13 +1,10 @@
 -- `pages::schedules::put_schedules` meets its contract: the loop keeps that all lines written to the page as it came
 -- are the lines left written to the page as it is. The measure is the schedules left.
 use Prim.Native.Nat.{◌-◌, ◌≤◌}
-use mathlib.Core.Path.{◌≡◌, refl}
-use native.Mathlib.Nat.{sub-zero}
+use mathlib.Core.Path.{◌≡◌}
 use lib.ListN.{length}
-use borrow.Author.Rules.{rules}
 use Rattle.lines.specs.Put.{written, put_all}
 use Rattle.pages.specs.ListText.{schedules_text}
-use Rattle.pages.proofs.Texts.{schedules_more, schedules_end}
 use Rattle.pages.proofs.schedules.put_schedules.Given as goal
 
 abbrev pub invariant-loop-i : goal.invariant-loop-i

@@ -1,7 +1,6 @@
 -- `quiet::depths::action_fits` meets its contract: the tests of the definition, in its order.
 use borrow.Author.Tests.{eq-eqb, ne_eqb}
 use Rattle.quiet.specs.Quiet.{action_fits}
-use borrow.Author.Rules.{rules}
 use Rattle.quiet.proofs.depths.action_fits.Goals as goal
 
 pub returns-then-not-fits_within : goal.returns-then-not-fits_within

@@ -1,7 +1,6 @@
 -- `quiet::depths::action_near` meets its contract: the depths of both operands, in the order of the definition.
 use Rattle.terms.proofs.Laws.{tests}
 use Rattle.quiet.specs.Quiet.{action_near}
-use borrow.Author.Rules.{rules}
 use Rattle.quiet.proofs.depths.action_near.Goals as goal
 
 pub returns-then-depth_at-room-gt-DEPTH : goal.returns-then-depth_at-room-gt-DEPTH

@@ -2,11 +2,8 @@
 -- present one on. The measure is what is left.
 use Prim.Native.Nat.{◌-◌}
 use mathlib.Core.Bool.{not}
-use mathlib.Core.Path.{◌≡◌, refl}
-use native.Mathlib.Omega.{arith}
-use borrow.Author.Rules.{rules}
+use mathlib.Core.Path.{◌≡◌}
 use Rattle.machine.specs.Judge.{any_from}
-use Rattle.machine.proofs.Loops.{any_more, any_end}
 use Rattle.quiet.specs.Quiet.{fails_at, all_fit}
 use Rattle.quiet.proofs.depths.all_fit.Given as goal
 

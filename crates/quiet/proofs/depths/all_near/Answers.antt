@@ -1,11 +1,7 @@
-use Prim.Native.Nat.{◌-◌}
-use mathlib.Core.Bool.{not}
-use mathlib.Core.Path.{◌≡◌, refl}
+use mathlib.Core.Path.{refl}
 use native.Mathlib.Omega.{arith}
-use borrow.Author.Rules.{rules}
-use Rattle.machine.specs.Judge.{any_from}
 use Rattle.machine.proofs.Loops.{any_more, any_end}
-use Rattle.quiet.specs.Quiet.{far_at, all_near}
+use Rattle.quiet.specs.Quiet.{all_near}
 use Rattle.quiet.proofs.depths.all_near.Goals as goal
 
 pub loop-i-init : goal.loop-i-init

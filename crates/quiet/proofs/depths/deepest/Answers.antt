@@ -1,7 +1,4 @@
-use Prim.Native.Nat.{◌-◌}
-use mathlib.Core.Path.{◌≡◌}
-use borrow.Author.Rules.{rules}
-use Rattle.quiet.specs.Quiet.{deepest_in, deepest}
+use Rattle.quiet.specs.Quiet.{deepest}
 use Rattle.quiet.proofs.Deepest.{deepest_more, deepest_end}
 use Rattle.quiet.proofs.depths.deepest.Goals as goal
 

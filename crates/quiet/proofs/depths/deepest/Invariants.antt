@@ -2,9 +2,7 @@
 -- present label on, or what was deepest so far. The measure is what is left.
 use Prim.Native.Nat.{◌-◌}
 use mathlib.Core.Path.{◌≡◌}
-use borrow.Author.Rules.{rules}
 use Rattle.quiet.specs.Quiet.{deepest_in, deepest}
-use Rattle.quiet.proofs.Deepest.{deepest_more, deepest_end}
 use Rattle.quiet.proofs.depths.deepest.Given as goal
 
 abbrev pub invariant-loop-i : goal.invariant-loop-i

@@ -1,5 +1,4 @@
 -- `quiet::depths::fails_at` meets its contract: the slot, its next action, and whether that fits.
-use borrow.Author.Rules.{rules}
 use Rattle.quiet.specs.Quiet.{fails_at}
 use Rattle.quiet.proofs.depths.fails_at.Goals as goal
 

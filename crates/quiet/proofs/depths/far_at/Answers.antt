@@ -1,5 +1,4 @@
 -- `quiet::depths::far_at` meets its contract: the slot, its next action, and whether that is near.
-use borrow.Author.Rules.{rules}
 use Rattle.quiet.specs.Quiet.{far_at}
 use Rattle.quiet.proofs.depths.far_at.Goals as goal
 

@@ -1,12 +1,7 @@
-use Prim.Native.Nat.{◌-◌}
-use mathlib.Core.Bool.{not}
-use mathlib.Core.Path.{◌≡◌, refl}
+use mathlib.Core.Path.{refl}
 use native.Mathlib.Omega.{arith}
-use borrow.Author.Rules.{rules}
-use lib.ListN.{get_or}
-use Rattle.machine.specs.Judge.{any_from}
 use Rattle.machine.proofs.Loops.{any_more, any_end}
-use Rattle.quiet.specs.Quiet.{stands_in, nobody_stands}
+use Rattle.quiet.specs.Quiet.{nobody_stands}
 use Rattle.quiet.proofs.ends.nobody_stands.Goals as goal
 
 pub loop-i-init : goal.loop-i-init

@@ -2,12 +2,9 @@
 -- present one on. The measure is what is left.
 use Prim.Native.Nat.{◌-◌}
 use mathlib.Core.Bool.{not}
-use mathlib.Core.Path.{◌≡◌, refl}
-use native.Mathlib.Omega.{arith}
-use borrow.Author.Rules.{rules}
+use mathlib.Core.Path.{◌≡◌}
 use lib.ListN.{get_or}
 use Rattle.machine.specs.Judge.{any_from}
-use Rattle.machine.proofs.Loops.{any_more, any_end}
 use Rattle.quiet.specs.Quiet.{stands_in, nobody_stands}
 use Rattle.quiet.proofs.ends.nobody_stands.Given as goal
 

@@ -3,7 +3,6 @@
 use borrow.Author.Tests.{eq-eqb, ne_eqb}
 use Rattle.state.proofs.Live.{zero_free}
 use Rattle.quiet.specs.Quiet.{stands_in}
-use borrow.Author.Rules.{rules}
 use Rattle.quiet.proofs.ends.stands.Goals as goal
 
 pub returns-then-n-eq0 : goal.returns-then-n-eq0

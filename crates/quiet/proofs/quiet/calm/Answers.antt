@@ -1,7 +1,6 @@
 -- `quiet::quiet::calm` meets its contract: whether there is room, then whether anybody stands.
 use Rattle.terms.proofs.Laws.{tests}
 use Rattle.quiet.specs.Quiet.{calm}
-use borrow.Author.Rules.{rules}
 use Rattle.quiet.proofs.quiet.calm.Goals as goal
 
 pub returns-then-terms-gt511 : goal.returns-then-terms-gt511

@@ -1,7 +1,6 @@
 -- `quiet::quiet::shallow` meets its contract: it is the definition's sum.
 use Rattle.terms.proofs.Laws.{tests}
 use Rattle.quiet.specs.Quiet.{shallow}
-use borrow.Author.Rules.{rules}
 use Rattle.quiet.proofs.quiet.shallow.Goals as goal
 
 pub returns : goal.returns

@@ -1,6 +1,5 @@
 -- `reader::action::action_counted` meets its contract: there is a place for it, or not.
 use borrow.Author.Tests.{le-leb, lt-leb}
-use borrow.Author.Rules.{rules}
 use Rattle.reader.specs.Drafts.{with_action}
 use Rattle.reader.specs.ALine.{action_counted}
 use Rattle.reader.proofs.action.action_counted.Goals as goal

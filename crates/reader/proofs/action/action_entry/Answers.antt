@@ -1,6 +1,5 @@
 -- `reader::action::action_entry` meets its contract: the two limits, then the entry.
 use borrow.Author.Tests.{le-leb, lt-leb}
-use borrow.Author.Rules.{rules}
 use Rattle.reader.specs.ALine.{action_entry}
 use Rattle.reader.proofs.action.action_entry.Goals as goal
 

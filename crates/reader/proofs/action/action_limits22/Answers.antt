@@ -1,6 +1,5 @@
 -- `reader::action::action_limits22` meets its contract: the limits in their order.
 use borrow.Author.Tests.{le-leb, lt-leb}
-use borrow.Author.Rules.{rules}
 use Rattle.reader.specs.ALine.{action_limits22}
 use Rattle.reader.proofs.action.action_limits22.Goals as goal
 

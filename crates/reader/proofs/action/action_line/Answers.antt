@@ -1,5 +1,4 @@
 -- `reader::action::action_line` meets its contract: the program and the number of the action, then the line.
-use borrow.Author.Rules.{rules}
 use Rattle.reader.specs.ALine.{action_line}
 use Rattle.reader.proofs.action.action_line.Goals as goal
 

@@ -1,5 +1,4 @@
 -- `reader::action::action_names23` meets its contract: each reference in turn.
-use borrow.Author.Rules.{rules}
 use Rattle.reader.specs.ALine.{action_names23}
 use Rattle.reader.proofs.action.action_names23.Goals as goal
 

@@ -1,6 +1,5 @@
 -- `reader::action::action_next` meets its contract: the line is refused, or entered.
 use borrow.Author.Tests.{eq-eqb, ne_eqb}
-use borrow.Author.Rules.{rules}
 use Rattle.reader.proofs.action.action_next.Goals as goal
 
 pub returns-then-n-ne0 : goal.returns-then-n-ne0

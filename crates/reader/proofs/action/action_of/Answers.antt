@@ -1,5 +1,4 @@
 -- `reader::action::action_of` meets its contract: the numbers at their places.
-use borrow.Author.Rules.{rules}
 use Rattle.reader.specs.ALine.{action_of}
 use Rattle.reader.proofs.action.action_of.Goals as goal
 

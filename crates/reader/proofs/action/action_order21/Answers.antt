@@ -1,6 +1,5 @@
 -- `reader::action::action_order21` meets its contract: the order of the groups, then the number.
-use borrow.Author.Tests.{not-true, not-false, eq-eqb, ne_eqb}
-use borrow.Author.Rules.{rules}
+use borrow.Author.Tests.{eq-eqb, ne_eqb}
 use Rattle.reader.specs.ALine.{action_order21}
 use Rattle.reader.proofs.action.action_order21.Goals as goal
 

@@ -1,6 +1,4 @@
 -- `reader::action::action_refusal` meets its contract: the refusals in the order of their numbers.
-use borrow.Author.Tests.{not-true, not-false}
-use borrow.Author.Rules.{rules}
 use Rattle.reader.specs.ALine.{action_refusal}
 use Rattle.reader.proofs.action.action_refusal.Goals as goal
 

@@ -1,6 +1,5 @@
 -- `reader::action::label_bad` meets its contract: the two cases of the definition.
 use borrow.Author.Tests.{le-leb, lt-leb}
-use borrow.Author.Rules.{rules}
 use Rattle.reader.specs.ALine.{label_bad}
 use Rattle.reader.proofs.action.label_bad.Goals as goal
 

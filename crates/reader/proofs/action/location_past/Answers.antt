@@ -1,5 +1,4 @@
 -- `reader::action::location_past` meets its contract: whether the op names a location.
-use borrow.Author.Rules.{rules}
 use Rattle.reader.specs.ALine.{location_past}
 use Rattle.reader.proofs.action.location_past.Goals as goal
 

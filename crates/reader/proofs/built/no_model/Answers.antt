@@ -1,5 +1,4 @@
 -- `reader::built::no_model` meets its contract: the fields one by one, after its call.
-use borrow.Author.Rules.{rules}
 use Rattle.reader.specs.Load.{no_model}
 use Rattle.reader.proofs.built.no_model.Goals as goal
 

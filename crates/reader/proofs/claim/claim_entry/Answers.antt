@@ -1,5 +1,4 @@
 -- `reader::claim::claim_entry` meets its contract: the fields one by one.
-use borrow.Author.Rules.{rules}
 use Rattle.reader.specs.Drafts.{with_claim}
 use Rattle.reader.proofs.claim.claim_entry.Goals as goal
 

@@ -1,6 +1,5 @@
 -- `reader::claim::claim_form20` meets its contract: the form, then the two bounds of the count.
 use borrow.Author.Tests.{le-leb, lt-leb}
-use borrow.Author.Rules.{rules}
 use Rattle.reader.specs.CLine.{claim_form20}
 use Rattle.reader.proofs.claim.claim_form20.Goals as goal
 

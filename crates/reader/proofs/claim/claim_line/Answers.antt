@@ -1,6 +1,5 @@
 -- `reader::claim::claim_line` meets its contract: the line is refused, or entered.
 use borrow.Author.Tests.{ne_eqb, eq-eqb}
-use borrow.Author.Rules.{rules}
 use Rattle.reader.specs.CLine.{claim_line}
 use Rattle.reader.proofs.claim.claim_line.Goals as goal
 

@@ -1,6 +1,5 @@
 -- `reader::claim::claim_names23` meets its contract: each reference in turn.
 use borrow.Author.Tests.{le-leb, lt-leb}
-use borrow.Author.Rules.{rules}
 use Rattle.reader.specs.CLine.{claim_names23}
 use Rattle.reader.proofs.claim.claim_names23.Goals as goal
 

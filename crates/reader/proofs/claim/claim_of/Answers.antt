@@ -1,5 +1,4 @@
 -- `reader::claim::claim_of` meets its contract: the numbers at their places.
-use borrow.Author.Rules.{rules}
 use Rattle.reader.specs.CLine.{claim_of}
 use Rattle.reader.proofs.claim.claim_of.Goals as goal
 

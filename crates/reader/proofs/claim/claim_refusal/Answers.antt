@@ -1,6 +1,5 @@
 -- `reader::claim::claim_refusal` meets its contract: the refusals in the order of their numbers.
-use borrow.Author.Tests.{not-true, not-false, lt-ltb, le-ltb}
-use borrow.Author.Rules.{rules}
+use borrow.Author.Tests.{lt-ltb, le-ltb}
 use Rattle.reader.specs.CLine.{claim_refusal}
 use Rattle.reader.proofs.claim.claim_refusal.Goals as goal
 

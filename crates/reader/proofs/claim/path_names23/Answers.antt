@@ -1,6 +1,5 @@
 -- `reader::claim::path_names23` meets its contract: each reference in turn.
 use borrow.Author.Tests.{le-leb, lt-leb}
-use borrow.Author.Rules.{rules}
 use Rattle.reader.specs.CLine.{path_names23}
 use Rattle.reader.proofs.claim.path_names23.Goals as goal
 

@@ -1,8 +1,7 @@
 -- `reader::fields::fields_in` meets its contract: one field is `fields_step`, no room is `fields_zero`. The measure
 -- is the room.
-use Prim.Native.Nat.{ℕ, ◌<◌, ◌%◌}
+use Prim.Native.Nat.{◌%◌}
 use mathlib.Core.Path.{◌≡◌, sym, ◌∙◌}
-use borrow.Author.Rules.{rules}
 use Rattle.reader.proofs.Laws.{more_small, last_small, fields_zero, fields_step}
 use Rattle.reader.proofs.fields.+fields_in.Goals as goal
 

@@ -1,6 +1,5 @@
 -- `reader::fields::fields_of` meets its contract: the tab behind the letter, then the fields.
 use borrow.Author.Tests.{eq-eqb, ne_eqb}
-use borrow.Author.Rules.{rules}
 use Rattle.reader.specs.Numbers.{fields_of}
 use Rattle.reader.proofs.fields.fields_of.Goals as goal
 
@@ -11,9 +10,9 @@ returns-then-byte_at-ne9 c = rw (← c.byte_at.ensures, ne_eqb _ _ c.if-byte_at-
 pub returns : goal.returns
 unfolding fields_of
 returns c = rw (
-      ← c.byte_at.ensures,
-      eq-eqb _ _ c.if-byte_at-ne9.false,
-      ← c.rest_of.ensures,
-      ← c.none.ensures,
-      ← c.fields_in.ensures,
-    )
+  ← c.byte_at.ensures,
+  eq-eqb _ _ c.if-byte_at-ne9.false,
+  ← c.rest_of.ensures,
+  ← c.none.ensures,
+  ← c.fields_in.ensures,
+)

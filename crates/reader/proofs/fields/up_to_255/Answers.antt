@@ -1,6 +1,5 @@
 -- `reader::fields::up_to_255` meets its contract: the two cases of the definition.
 use borrow.Author.Tests.{lt-ltb, le-ltb}
-use borrow.Author.Rules.{rules}
 use Rattle.reader.specs.Numbers.{up_to255}
 use Rattle.reader.proofs.fields.up_to_255.Goals as goal
 

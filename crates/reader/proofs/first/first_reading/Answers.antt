@@ -1,12 +1,11 @@
-use Prim.Native.Nat.{◌+◌, ◌-◌, ◌<◌, ◌≤◌}
+use Prim.Native.Nat.{◌-◌, ◌<◌, ◌≤◌}
 use mathlib.Core.Path.{◌≡◌, ap, ◌∙◌}
 use native.Mathlib.Omega.{arith}
-use lib.ListN.{length, drop, length-drop}
+use lib.ListN.{length, length-drop}
 use borrow.Author.Tests.{eq-eqb, ne_eqb, lt-ltb, le-ltb}
 use borrow.Author.Rules.{rules}
-use Rattle.reader.specs.FirstReading.{read_from, first_reading}
+use Rattle.reader.specs.FirstReading.{first_reading}
 use Rattle.reader.proofs.Laws.{read_more, read_end}
-use Rattle.lines.specs.Line.{lines_of}
 use Rattle.reader.proofs.first.first_reading.Goals as goal
 
 pub returns-then-file-gt-BYTES : goal.returns-then-file-gt-BYTES
@@ -19,13 +18,13 @@ loop-at-init c = (rw (le-ltb _ _ c.if-file-gt-BYTES.false, ← c.fresh-d.ensures
 
 pub returns-then-r-ne0 : goal.returns-then-r-ne0
 returns-then-r-ne0 c = rw (
-      c.loop-at.invariant.0,
-      read_more _ c.loop-at.at c.loop-at.line _ _ _ c.loop-at-test.true,
-      ← c.rest_of-rest.ensures,
-      ← c.next_line-r.ensures,
-      ne_eqb _ _ c.if-r-ne0.true,
-      c.answer-then-r-ne0.ensures,
-    )
+  c.loop-at.invariant.0,
+  read_more _ c.loop-at.at c.loop-at.line _ _ _ c.loop-at-test.true,
+  ← c.rest_of-rest.ensures,
+  ← c.next_line-r.ensures,
+  ne_eqb _ _ c.if-r-ne0.true,
+  c.answer-then-r-ne0.ensures,
+)
 
 pub loop-at-smaller : goal.loop-at-smaller
 loop-at-smaller c = let e : length c.rest_of-rest.result.now ≡ length c.args.file.now - c.loop-at.at = ap length c.rest_of-rest.ensures ∙ length-drop c.loop-at.at c.args.file.now in

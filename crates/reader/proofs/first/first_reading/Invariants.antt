@@ -1,13 +1,9 @@
 -- `reader::first::first_reading` meets its contract: the loop keeps that the whole reading is what the lines from the
 -- present one on give. The measure is the bytes left.
-use Prim.Native.Nat.{◌+◌, ◌-◌, ◌<◌, ◌≤◌}
-use mathlib.Core.Path.{◌≡◌, ap, ◌∙◌}
-use native.Mathlib.Omega.{arith}
-use lib.ListN.{length, drop, length-drop}
-use borrow.Author.Tests.{eq-eqb, ne_eqb, lt-ltb, le-ltb}
-use borrow.Author.Rules.{rules}
+use Prim.Native.Nat.{◌+◌, ◌-◌, ◌≤◌}
+use mathlib.Core.Path.{◌≡◌}
+use lib.ListN.{length, drop}
 use Rattle.reader.specs.FirstReading.{read_from, first_reading}
-use Rattle.reader.proofs.Laws.{read_more, read_end}
 use Rattle.lines.specs.Line.{lines_of}
 use Rattle.reader.proofs.first.first_reading.Given as goal
 

@@ -1,5 +1,4 @@
 -- `reader::first::next_line` meets its contract: there is an LF, or not.
-use borrow.Author.Rules.{rules}
 use Rattle.reader.specs.FirstReading.{next_line}
 use Rattle.reader.proofs.first.next_line.Goals as goal
 

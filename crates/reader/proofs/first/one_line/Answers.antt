@@ -1,7 +1,6 @@
 -- `reader::first::one_line` meets its contract: the seven letters, and any other byte.
 use native.Mathlib.Omega.{arith}
 use borrow.Author.Tests.{ne_eqb}
-use borrow.Author.Rules.{rules}
 use Rattle.reader.specs.FirstReading.{one_line}
 use Rattle.reader.proofs.first.one_line.Goals as goal
 
@@ -36,14 +35,14 @@ returns-in-67 c = rw (← c.byte_at-letter.ensures, ← c.fields_of-f.ensures, c
 pub returns-in_default : goal.returns-in_default
 unfolding one_line
 returns-in_default c = rw (
-      ← c.byte_at-letter.ensures,
-      ← c.fields_of-f.ensures,
-      ne_eqb c.byte_at-letter.result 86 (omega arith),
-      ne_eqb c.byte_at-letter.result 69 (omega arith),
-      ne_eqb c.byte_at-letter.result 65 (omega arith),
-      ne_eqb c.byte_at-letter.result 77 (omega arith),
-      ne_eqb c.byte_at-letter.result 76 (omega arith),
-      ne_eqb c.byte_at-letter.result 84 (omega arith),
-      ne_eqb c.byte_at-letter.result 67 (omega arith),
-      c.refuse.ensures,
-    )
+  ← c.byte_at-letter.ensures,
+  ← c.fields_of-f.ensures,
+  ne_eqb c.byte_at-letter.result 86 (omega arith),
+  ne_eqb c.byte_at-letter.result 69 (omega arith),
+  ne_eqb c.byte_at-letter.result 65 (omega arith),
+  ne_eqb c.byte_at-letter.result 77 (omega arith),
+  ne_eqb c.byte_at-letter.result 76 (omega arith),
+  ne_eqb c.byte_at-letter.result 84 (omega arith),
+  ne_eqb c.byte_at-letter.result 67 (omega arith),
+  c.refuse.ensures,
+)

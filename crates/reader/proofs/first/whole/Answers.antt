@@ -1,6 +1,5 @@
 -- `reader::first::whole` meets its contract: the last line was C, or not.
 use borrow.Author.Tests.{ne_eqb, eq-eqb}
-use borrow.Author.Rules.{rules}
 use Rattle.reader.specs.FirstReading.{whole_read}
 use Rattle.reader.proofs.first.whole.Goals as goal
 

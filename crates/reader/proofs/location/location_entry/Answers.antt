@@ -1,6 +1,5 @@
 -- `reader::location::location_entry` meets its contract: there is a place for it, or not.
 use borrow.Author.Tests.{le-leb, lt-leb}
-use borrow.Author.Rules.{rules}
 use Rattle.reader.specs.Drafts.{with_location}
 use Rattle.reader.specs.LLine.{location_entry}
 use Rattle.reader.proofs.location.location_entry.Goals as goal

@@ -1,6 +1,4 @@
 -- `reader::location::location_kind25` meets its contract: ground, then a register's value.
-use borrow.Author.Tests.{not-true, not-false}
-use borrow.Author.Rules.{rules}
 use Rattle.reader.specs.LLine.{location_kind25}
 use Rattle.reader.proofs.location.location_kind25.Goals as goal
 

@@ -1,6 +1,5 @@
 -- `reader::location::location_limits22` meets its contract: the limits in their order.
 use borrow.Author.Tests.{le-leb, lt-leb}
-use borrow.Author.Rules.{rules}
 use Rattle.reader.specs.LLine.{location_limits22}
 use Rattle.reader.proofs.location.location_limits22.Goals as goal
 

@@ -1,6 +1,5 @@
 -- `reader::location::location_line` meets its contract: the line is refused, or entered.
 use borrow.Author.Tests.{ne_eqb, eq-eqb}
-use borrow.Author.Rules.{rules}
 use Rattle.reader.specs.LLine.{location_line}
 use Rattle.reader.proofs.location.location_line.Goals as goal
 

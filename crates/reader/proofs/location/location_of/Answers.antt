@@ -1,5 +1,4 @@
 -- `reader::location::location_of` meets its contract: the numbers at their places.
-use borrow.Author.Rules.{rules}
 use Rattle.reader.specs.LLine.{location_of}
 use Rattle.reader.proofs.location.location_of.Goals as goal
 

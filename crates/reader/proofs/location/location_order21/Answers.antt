@@ -1,6 +1,4 @@
 -- `reader::location::location_order21` meets its contract: the order of the groups, then the number.
-use borrow.Author.Tests.{not-true, not-false}
-use borrow.Author.Rules.{rules}
 use Rattle.reader.specs.LLine.{location_order21}
 use Rattle.reader.proofs.location.location_order21.Goals as goal
 

@@ -1,6 +1,4 @@
 -- `reader::location::location_refusal` meets its contract: the refusals in the order of their numbers.
-use borrow.Author.Tests.{not-true, not-false}
-use borrow.Author.Rules.{rules}
 use Rattle.reader.specs.LLine.{location_refusal}
 use Rattle.reader.proofs.location.location_refusal.Goals as goal
 

@@ -1,6 +1,5 @@
 -- `reader::machines::machine_entry` meets its contract: there is a place for it, or not.
 use borrow.Author.Tests.{le-leb, lt-leb}
-use borrow.Author.Rules.{rules}
 use Rattle.reader.specs.Drafts.{with_machine}
 use Rattle.reader.specs.MLine.{machine_entry}
 use Rattle.reader.proofs.machines.machine_entry.Goals as goal

@@ -1,6 +1,5 @@
 -- `reader::machines::machine_line` meets its contract: the line is refused, or entered.
 use borrow.Author.Tests.{ne_eqb, eq-eqb}
-use borrow.Author.Rules.{rules}
 use Rattle.reader.specs.MLine.{machine_line}
 use Rattle.reader.proofs.machines.machine_line.Goals as goal
 

@@ -1,5 +1,4 @@
 -- `reader::machines::machine_of` meets its contract: the numbers at their places.
-use borrow.Author.Rules.{rules}
 use Rattle.reader.specs.MLine.{machine_of}
 use Rattle.reader.proofs.machines.machine_of.Goals as goal
 

@@ -1,6 +1,4 @@
 -- `reader::machines::machine_refusal` meets its contract: the refusals in the order of their numbers.
-use borrow.Author.Tests.{not-true, not-false}
-use borrow.Author.Rules.{rules}
 use Rattle.reader.specs.MLine.{machine_refusal}
 use Rattle.reader.proofs.machines.machine_refusal.Goals as goal
 

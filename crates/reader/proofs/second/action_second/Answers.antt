@@ -1,6 +1,4 @@
 -- `reader::second::action_second` meets its contract: the refusals in the order of their numbers.
-use borrow.Author.Tests.{not-true, not-false}
-use borrow.Author.Rules.{rules}
 use Rattle.reader.specs.SecondReading.{action_second}
 use Rattle.reader.proofs.second.action_second.Goals as goal
 

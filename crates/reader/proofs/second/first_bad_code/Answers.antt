@@ -1,13 +1,8 @@
-use Prim.Native.Nat.{◌-◌, ◌≤◌}
 use mathlib.Core.Path.{◌≡◌}
-use mathlib.Core.Bool.{not}
 use native.Mathlib.Nat.{sub-zero}
 use native.Mathlib.Omega.{arith}
 use borrow.Author.Rules.{rules}
-use Rattle.terms.specs.Line.{term_at}
-use Rattle.model.specs.First.{first_from}
 use Rattle.model.proofs.First.{first_more, first_end}
-use Rattle.audit.specs.Models.{names_program}
 use Rattle.reader.specs.SecondReading.{first_bad_code}
 use Rattle.reader.proofs.second.first_bad_code.Goals as goal
 
@@ -17,12 +12,12 @@ loop-i-init c = (rw (sub-zero), search rules)
 
 pub returns-then-not-names_program : goal.returns-then-not-names_program
 returns-then-not-names_program c = rw (
-      c.loop-i.invariant.0,
-      first_more _ c.loop-i.i _ c.loop-i-test.true,
-      ← c.term_at.ensures,
-      ← c.names_program.ensures,
-      c.if-not-names_program.true,
-    )
+  c.loop-i.invariant.0,
+  first_more _ c.loop-i.i _ c.loop-i-test.true,
+  ← c.term_at.ensures,
+  ← c.names_program.ensures,
+  c.if-not-names_program.true,
+)
 
 pub loop-i-preserved : goal.loop-i-preserved
 loop-i-preserved c = (

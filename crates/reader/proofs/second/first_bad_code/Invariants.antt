@@ -3,12 +3,8 @@
 use Prim.Native.Nat.{◌-◌, ◌≤◌}
 use mathlib.Core.Path.{◌≡◌}
 use mathlib.Core.Bool.{not}
-use native.Mathlib.Nat.{sub-zero}
-use native.Mathlib.Omega.{arith}
-use borrow.Author.Rules.{rules}
 use Rattle.terms.specs.Line.{term_at}
 use Rattle.model.specs.First.{first_from}
-use Rattle.model.proofs.First.{first_more, first_end}
 use Rattle.audit.specs.Models.{names_program}
 use Rattle.reader.specs.SecondReading.{first_bad_code}
 use Rattle.reader.proofs.second.first_bad_code.Given as goal

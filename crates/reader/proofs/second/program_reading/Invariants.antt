@@ -2,11 +2,7 @@
 -- the present one on. The measure is the actions left.
 use Prim.Native.Nat.{◌-◌}
 use mathlib.Core.Path.{◌≡◌}
-use native.Mathlib.Nat.{sub-zero}
-use borrow.Author.Tests.{eq-eqb, ne_eqb}
-use borrow.Author.Rules.{rules}
 use Rattle.reader.specs.SecondReading.{within_from, action_second, program_reading}
-use Rattle.reader.proofs.Laws.{within_more, within_end}
 use Rattle.reader.proofs.second.program_reading.Given as goal
 
 abbrev pub invariant-loop-k : goal.invariant-loop-k

@@ -1,6 +1,5 @@
 -- `reader::second::program_twice24` meets its contract: the last action, then an earlier program.
 use borrow.Author.Tests.{ne_eqb, eq-eqb}
-use borrow.Author.Rules.{rules}
 use Rattle.reader.specs.SecondReading.{program_twice24}
 use Rattle.reader.proofs.second.program_twice24.Goals as goal
 

@@ -2,11 +2,7 @@
 -- present one on give. The measure is the programs left.
 use Prim.Native.Nat.{◌+◌, ◌*◌, ◌-◌, ◌≤◌}
 use mathlib.Core.Path.{◌≡◌}
-use native.Mathlib.Nat.{sub-zero}
-use borrow.Author.Tests.{eq-eqb, ne_eqb}
-use borrow.Author.Rules.{rules}
 use Rattle.reader.specs.SecondReading.{line_of_label, program_reading, programs_from}
-use Rattle.reader.proofs.Laws.{programs_more, programs_end}
 use Rattle.reader.proofs.second.programs_reading.Given as goal
 
 abbrev pub invariant-loop-p : goal.invariant-loop-p

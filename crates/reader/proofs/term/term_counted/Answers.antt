@@ -1,6 +1,5 @@
 -- `reader::term::term_counted` meets its contract: there is a place for it, or not.
 use borrow.Author.Tests.{le-leb, lt-leb}
-use borrow.Author.Rules.{rules}
 use Rattle.reader.specs.Drafts.{with_term}
 use Rattle.reader.specs.ELine.{term_counted}
 use Rattle.reader.proofs.term.term_counted.Goals as goal

@@ -1,5 +1,4 @@
 -- `reader::term::term_entry` meets its contract: the four outcomes of adding a term.
-use borrow.Author.Rules.{rules}
 use Rattle.reader.specs.ELine.{term_entry}
 use Rattle.reader.proofs.term.term_entry.Goals as goal
 

@@ -1,6 +1,5 @@
 -- `reader::term::term_limits22` meets its contract: the limits in their order.
-use borrow.Author.Tests.{le-leb, lt-leb, not-true, not-false}
-use borrow.Author.Rules.{rules}
+use borrow.Author.Tests.{le-leb, lt-leb}
 use Rattle.reader.specs.ELine.{term_limits22}
 use Rattle.reader.proofs.term.term_limits22.Goals as goal
 

@@ -1,6 +1,5 @@
 -- `reader::term::term_line` meets its contract: the line is refused, or entered.
 use borrow.Author.Tests.{ne_eqb, eq-eqb}
-use borrow.Author.Rules.{rules}
 use Rattle.reader.specs.ELine.{term_line}
 use Rattle.reader.proofs.term.term_line.Goals as goal
 

@@ -1,6 +1,4 @@
 -- `reader::term::term_names23` meets its contract: each reference in turn.
-use borrow.Author.Tests.{not-true, not-false}
-use borrow.Author.Rules.{rules}
 use Rattle.reader.specs.ELine.{term_names23}
 use Rattle.reader.proofs.term.term_names23.Goals as goal
 

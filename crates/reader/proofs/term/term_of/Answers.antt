@@ -1,5 +1,4 @@
 -- `reader::term::term_of` meets its contract: the numbers at their places.
-use borrow.Author.Rules.{rules}
 use Rattle.reader.specs.ELine.{term_of}
 use Rattle.reader.proofs.term.term_of.Goals as goal
 

@@ -1,6 +1,4 @@
 -- `reader::term::term_refusal` meets its contract: the refusals in the order of their numbers.
-use borrow.Author.Tests.{not-true, not-false}
-use borrow.Author.Rules.{rules}
 use Rattle.reader.specs.ELine.{term_refusal}
 use Rattle.reader.proofs.term.term_refusal.Goals as goal
 

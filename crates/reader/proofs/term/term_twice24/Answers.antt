@@ -1,5 +1,4 @@
 -- `reader::term::term_twice24` meets its contract: the term is found, or not.
-use borrow.Author.Rules.{rules}
 use Rattle.reader.specs.ELine.{term_twice24}
 use Rattle.reader.proofs.term.term_twice24.Goals as goal
 

@@ -1,6 +1,5 @@
 -- `reader::thread::thread_entry` meets its contract: there is a place for it, or not.
 use borrow.Author.Tests.{le-leb, lt-leb}
-use borrow.Author.Rules.{rules}
 use Rattle.reader.specs.Drafts.{with_thread}
 use Rattle.reader.specs.TLine.{thread_entry}
 use Rattle.reader.proofs.thread.thread_entry.Goals as goal

@@ -1,6 +1,5 @@
 -- `reader::thread::thread_line` meets its contract: the line is refused, or entered.
 use borrow.Author.Tests.{ne_eqb, eq-eqb}
-use borrow.Author.Rules.{rules}
 use Rattle.reader.specs.TLine.{thread_line}
 use Rattle.reader.proofs.thread.thread_line.Goals as goal
 

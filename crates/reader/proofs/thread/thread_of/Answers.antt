@@ -1,5 +1,4 @@
 -- `reader::thread::thread_of` meets its contract: the numbers at their places.
-use borrow.Author.Rules.{rules}
 use Rattle.reader.specs.TLine.{thread_of}
 use Rattle.reader.proofs.thread.thread_of.Goals as goal
 

@@ -1,6 +1,5 @@
 -- `reader::thread::thread_refusal` meets its contract: the refusals in the order of their numbers.
-use borrow.Author.Tests.{not-true, not-false, le-leb, lt-leb}
-use borrow.Author.Rules.{rules}
+use borrow.Author.Tests.{le-leb, lt-leb}
 use Rattle.reader.specs.TLine.{thread_refusal}
 use Rattle.reader.proofs.thread.thread_refusal.Goals as goal
 

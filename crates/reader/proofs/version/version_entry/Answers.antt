@@ -1,5 +1,4 @@
 -- `reader::version::version_entry` meets its contract: the fields one by one.
-use borrow.Author.Rules.{rules}
 use Rattle.reader.specs.Drafts.{with_edition}
 use Rattle.reader.proofs.version.version_entry.Goals as goal
 

@@ -1,6 +1,5 @@
 -- `reader::version::version_line` meets its contract: the line is refused, or entered.
 use borrow.Author.Tests.{ne_eqb, eq-eqb}
-use borrow.Author.Rules.{rules}
 use Rattle.reader.specs.VLine.{version_line}
 use Rattle.reader.proofs.version.version_line.Goals as goal
 

@@ -1,6 +1,5 @@
 -- `reader::version::version_order21` meets its contract: the order of the groups, then the number.
 use borrow.Author.Tests.{ne_eqb, eq-eqb}
-use borrow.Author.Rules.{rules}
 use Rattle.reader.specs.VLine.{version_order21}
 use Rattle.reader.proofs.version.version_order21.Goals as goal
 

@@ -1,6 +1,4 @@
 -- `reader::version::version_refusal` meets its contract: the refusals in the order of their numbers.
-use borrow.Author.Tests.{not-true, not-false}
-use borrow.Author.Rules.{rules}
 use Rattle.reader.specs.VLine.{version_refusal}
 use Rattle.reader.proofs.version.version_refusal.Goals as goal
 

@@ -1,5 +1,4 @@
 -- `search::ahead::advance` meets its contract: the turn enters a longer schedule, or not.
-use borrow.Author.Rules.{rules}
 use Rattle.rules.specs.Made.{layout}
 use Rattle.search.proofs.OverRows.{advanced_still, advanced_far}
 use Rattle.search.proofs.ahead.advance.Goals as goal

@@ -1,5 +1,4 @@
 -- `search::ahead::entered` meets its contract: passed soon, passed late, or entered.
-use borrow.Author.Rules.{rules}
 use Rattle.rules.specs.Made.{layout}
 use Rattle.search.proofs.OverRows.{entered_soon, entered_late_lem, entered_at}
 use native.Mathlib.Omega.{arith}

@@ -1,5 +1,4 @@
 -- `search::ahead::note_step` meets its contract: what happened, as a record, put.
-use borrow.Author.Rules.{rules}
 use Rattle.search.specs.Ahead.{noted}
 use Rattle.search.proofs.ahead.note_step.Goals as goal
 

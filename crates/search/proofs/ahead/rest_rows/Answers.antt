@@ -1,5 +1,4 @@
 -- `search::ahead::rest_rows` meets its contract: three rows are copied, and the step is made in them.
-use borrow.Author.Rules.{rules}
 use Rattle.rules.specs.Made.{layout}
 use Rattle.search.proofs.OverRows.{rest_put}
 use native.Mathlib.Omega.{arith}

@@ -1,5 +1,4 @@
 -- `search::answer::refused_listing` meets its contract: by computing.
-use borrow.Author.Rules.{rules}
 use Rattle.search.specs.Answer.{refused_listing}
 use Rattle.search.proofs.answer.refused_listing.Goals as goal
 

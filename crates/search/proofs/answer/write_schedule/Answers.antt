@@ -1,10 +1,9 @@
-use Prim.Native.Nat.{◌+◌, ◌-◌, ◌*◌, ◌≤◌}
-use mathlib.Core.Path.{◌≡◌, refl, sym, ◌∙◌}
+use Prim.Native.Nat.{◌+◌, ◌*◌}
+use mathlib.Core.Path.{refl, sym, ◌∙◌}
 use native.Mathlib.Numerals.{add-one}
 use native.Mathlib.Nat.{add-zero}
 use native.Mathlib.Omega.{arith}
-use lib.ListN.{length, drop, length-set}
-use lib.Seq.{sets}
+use lib.ListN.{length-set}
 use borrow.Author.Rules.{rules}
 use borrow.Author.Tests.{lt-ltb, le-ltb}
 use Rattle.search.specs.Answer.{schedule_put}
@@ -20,12 +19,12 @@ loop-k-init c = (rw add-zero, refl, search rules, search rules, search rules)
 
 pub loop-k-preserved : goal.loop-k-preserved
 loop-k-preserved c = let f = c.args.i * 25 in (
-      c.loop-k.invariant.0 ∙ sets_more c.loop-k.room (f + 1) c.loop-k.k c.args.p.codes 0 (omega (arith, c.loop-k-test.true)),
-      rw length-set c.loop-k.invariant.1,
-      search rules,
-      search rules,
-      search rules,
-    )
+  c.loop-k.invariant.0 ∙ sets_more c.loop-k.room (f + 1) c.loop-k.k c.args.p.codes 0 (omega (arith, c.loop-k-test.true)),
+  rw length-set c.loop-k.invariant.1,
+  search rules,
+  search rules,
+  search rules,
+)
 
 pub returns : goal.returns
 unfolding schedule_put

@@ -1,16 +1,9 @@
 -- `search::answer::write_schedule` meets its contract: the loop keeps that storing all codes gives what storing those
 -- from k on gives. The measure is the codes left.
-use Prim.Native.Nat.{◌+◌, ◌-◌, ◌*◌, ◌≤◌}
-use mathlib.Core.Path.{◌≡◌, refl, sym, ◌∙◌}
-use native.Mathlib.Numerals.{add-one}
-use native.Mathlib.Nat.{add-zero}
-use native.Mathlib.Omega.{arith}
-use lib.ListN.{length, drop, length-set}
+use Prim.Native.Nat.{◌+◌, ◌-◌, ◌≤◌}
+use mathlib.Core.Path.{◌≡◌}
+use lib.ListN.{length, drop}
 use lib.Seq.{sets}
-use borrow.Author.Rules.{rules}
-use borrow.Author.Tests.{lt-ltb, le-ltb}
-use Rattle.search.specs.Answer.{schedule_put}
-use Rattle.rules.proofs.Loops.{sets_more, sets_end}
 use Rattle.search.proofs.answer.write_schedule.Given as goal
 
 abbrev pub invariant-loop-k : goal.invariant-loop-k

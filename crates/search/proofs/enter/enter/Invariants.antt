@@ -1,14 +1,9 @@
 -- `search::enter::enter` meets its contract: the loop keeps what entering all steps gives. The measure is the steps
 -- left.
 use Prim.Native.Nat.{◌-◌, ◌≤◌}
-use mathlib.Core.Path.{◌≡◌, refl}
-use native.Mathlib.Nat.{sub-zero}
-use native.Mathlib.Omega.{arith}
+use mathlib.Core.Path.{◌≡◌}
 use lib.ListN.{length}
-use borrow.Author.Rules.{rules}
-use borrow.Author.Tests.{not-true, not-false}
 use Rattle.search.specs.Enter.{climb, enter_in, enter_on}
-use Rattle.search.proofs.Laws.{enter_more, enter_end}
 use Rattle.search.proofs.enter.enter.Given as goal
 
 abbrev pub invariant-loop-i : goal.invariant-loop-i

@@ -1,6 +1,5 @@
 -- `search::enter::in_bounds` meets its contract: the definition's tests, in the code's order.
 use borrow.Author.Tests.{le-leb, lt-leb, eq-eqb, ne_eqb}
-use borrow.Author.Rules.{rules}
 use Rattle.search.specs.Enter.{in_bounds}
 use Rattle.search.proofs.enter.in_bounds.Goals as goal
 

@@ -1,5 +1,4 @@
 -- `search::enter::went` meets its contract: refused, or recorded and judged.
-use borrow.Author.Rules.{rules}
 use Rattle.search.specs.Enter.{went_on}
 use Rattle.search.proofs.enter.went.Goals as goal
 

@@ -1,5 +1,4 @@
 -- `search::place::code_in` meets its contract: the level, then by computing.
-use borrow.Author.Rules.{rules}
 use Rattle.search.specs.Place.{code_in}
 use Rattle.search.proofs.place.code_in.Goals as goal
 

@@ -1,5 +1,4 @@
 -- `search::place::popped` meets its contract: the level of the last code, then by computing.
-use borrow.Author.Rules.{rules}
 use Rattle.search.specs.Place.{popped, code_put, code_in}
 use Rattle.search.proofs.place.popped.Goals as goal
 

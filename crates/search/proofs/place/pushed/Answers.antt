@@ -1,5 +1,4 @@
 -- `search::place::pushed` meets its contract: the level of the new code, then by computing.
-use borrow.Author.Rules.{rules}
 use Rattle.search.specs.Place.{pushed, code_put}
 use Rattle.search.proofs.place.pushed.Goals as goal
 

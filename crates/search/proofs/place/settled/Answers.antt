@@ -1,6 +1,5 @@
-use mathlib.Core.Path.{◌≡◌, refl, sym, ap, ◌∙◌}
+use mathlib.Core.Path.{refl, sym, ap, ◌∙◌}
 use native.Mathlib.Omega.{arith}
-use borrow.Author.Rules.{rules}
 use Rattle.search.specs.Place.{settled}
 use Rattle.search.proofs.Laws.{done_long, settle_more, settle_end}
 use Rattle.search.proofs.place.settled.Goals as goal

@@ -1,10 +1,7 @@
 -- `search::place::settled` meets its contract: the loop keeps what the place settles to. The measure is the
 -- schedule's length.
-use mathlib.Core.Path.{◌≡◌, refl, sym, ap, ◌∙◌}
-use native.Mathlib.Omega.{arith}
-use borrow.Author.Rules.{rules}
+use mathlib.Core.Path.{◌≡◌}
 use Rattle.search.specs.Place.{settled}
-use Rattle.search.proofs.Laws.{done_long, settle_more, settle_end}
 use Rattle.search.proofs.place.settled.Given as goal
 
 abbrev pub invariant-loop-q : goal.invariant-loop-q

@@ -1,5 +1,4 @@
 -- `search::rows::at_last` meets its contract: the budget, then the length.
-use borrow.Author.Rules.{rules}
 use borrow.Author.Tests.{lt-ltb, le-ltb}
 use Rattle.search.specs.Search.{at_last}
 use Rattle.search.proofs.rows.at_last.Goals as goal

@@ -1,10 +1,9 @@
-use Prim.Native.Nat.{◌-◌}
 use mathlib.Core.Path.{refl}
 use borrow.Author.Rules.{rules}
 use Rattle.state.specs.declared.control.Control.{Control}
 use Rattle.search.specs.Rows.{counts_row, count_rows, counts_at}
 use Rattle.search.specs.Enter.{no_control}
-use Rattle.search.proofs.Stacked.{length_stack, Spread, spread_next, spread_all}
+use Rattle.search.proofs.Stacked.{length_stack, spread_next, spread_all}
 use Rattle.search.proofs.rows.count_rows.Goals as goal
 
 pub loop-i-init : goal.loop-i-init

@@ -1,12 +1,9 @@
 -- `search::rows::count_rows` meets its contract: the loop keeps the rows that are put already and those still to come. The
 -- measure is the rows left.
 use Prim.Native.Nat.{◌-◌}
-use mathlib.Core.Path.{refl}
-use borrow.Author.Rules.{rules}
 use Rattle.state.specs.declared.control.Control.{Control}
-use Rattle.search.specs.Rows.{counts_row, count_rows, counts_at}
-use Rattle.search.specs.Enter.{no_control}
-use Rattle.search.proofs.Stacked.{length_stack, Spread, spread_next, spread_all}
+use Rattle.search.specs.Rows.{counts_row, counts_at}
+use Rattle.search.proofs.Stacked.{Spread}
 use Rattle.search.proofs.rows.count_rows.Given as goal
 
 abbrev pub invariant-loop-i : goal.invariant-loop-i

@@ -1,6 +1,5 @@
 -- `search::rows::counts_at` meets its contract: the definition, field by field.
 use mathlib.Core.Path.{refl}
-use borrow.Author.Rules.{rules}
 use Rattle.search.specs.Rows.{counts_from}
 use Rattle.search.proofs.rows.counts_at.Goals as goal
 

@@ -1,6 +1,5 @@
 -- `search::rows::counts_row` meets its contract: the numbers in their order.
 use mathlib.Core.Path.{refl}
-use borrow.Author.Rules.{rules}
 use Rattle.search.specs.Rows.{counts_row}
 use Rattle.search.proofs.rows.counts_row.Goals as goal
 

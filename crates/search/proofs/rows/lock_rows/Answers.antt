@@ -1,11 +1,11 @@
-use Prim.Native.Nat.{ℕ, ◌-◌}
+use Prim.Native.Nat.{ℕ}
 use mathlib.Core.List.{List}
 use mathlib.Core.Path.{refl}
 use borrow.Author.Rules.{rules}
 use Rattle.state.specs.declared.control.Control.{Control}
 use Rattle.search.specs.Rows.{lock_rows}
 use Rattle.search.specs.Enter.{no_control}
-use Rattle.search.proofs.Stacked.{length_stack, Spread, spread_next, spread_all}
+use Rattle.search.proofs.Stacked.{length_stack, spread_next, spread_all}
 use Rattle.search.proofs.rows.lock_rows.Goals as goal
 
 abbrev part : Control → List ℕ

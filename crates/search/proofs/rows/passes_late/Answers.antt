@@ -1,5 +1,4 @@
 -- `search::rows::passes_late` meets its contract: one test.
-use borrow.Author.Rules.{rules}
 use Rattle.search.specs.Search.{passes_late}
 use Rattle.search.proofs.rows.passes_late.Goals as goal
 

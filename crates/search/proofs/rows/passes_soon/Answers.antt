@@ -1,5 +1,4 @@
 -- `search::rows::passes_soon` meets its contract: the definition's three cases.
-use borrow.Author.Rules.{rules}
 use Rattle.search.specs.Search.{passes_soon}
 use Rattle.search.proofs.rows.passes_soon.Goals as goal
 

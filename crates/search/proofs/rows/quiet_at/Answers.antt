@@ -1,5 +1,4 @@
 -- `search::rows::quiet_at` meets its contract: the test of the place, then of the configuration.
-use borrow.Author.Rules.{rules}
 use Rattle.search.specs.Search.{quiet_at}
 use Rattle.search.proofs.rows.quiet_at.Goals as goal
 

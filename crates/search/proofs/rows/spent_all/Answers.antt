@@ -1,5 +1,4 @@
 -- `search::rows::spent_all` meets its contract: by computing.
-use borrow.Author.Rules.{rules}
 use Rattle.search.specs.Search.{spent_all}
 use Rattle.search.proofs.rows.spent_all.Goals as goal
 

@@ -1,8 +1,6 @@
-use Prim.Native.Nat.{◌+◌, ◌-◌, ◌≤◌}
-use mathlib.Core.List.{◌++◌}
-use mathlib.Core.Path.{◌≡◌, refl, sym, ◌∙◌}
+use mathlib.Core.Path.{refl, sym, ◌∙◌}
 use native.Mathlib.Omega.{arith}
-use lib.ListN.{length, take, drop, length-set}
+use lib.ListN.{length-set}
 use borrow.Author.Rules.{rules}
 use Rattle.search.proofs.Laws.{copy_more, copy_end}
 use Rattle.search.proofs.search.codes_in.Goals as goal

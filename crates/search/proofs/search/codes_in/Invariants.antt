@@ -2,11 +2,8 @@
 -- measure is the codes left.
 use Prim.Native.Nat.{◌+◌, ◌-◌, ◌≤◌}
 use mathlib.Core.List.{◌++◌}
-use mathlib.Core.Path.{◌≡◌, refl, sym, ◌∙◌}
-use native.Mathlib.Omega.{arith}
-use lib.ListN.{length, take, drop, length-set}
-use borrow.Author.Rules.{rules}
-use Rattle.search.proofs.Laws.{copy_more, copy_end}
+use mathlib.Core.Path.{◌≡◌}
+use lib.ListN.{length, take, drop}
 use Rattle.search.proofs.search.codes_in.Given as goal
 
 abbrev pub invariant-loop-i : goal.invariant-loop-i

@@ -1,5 +1,4 @@
 -- `search::search::first_walk` meets its contract: the level of the place, and the place settled.
-use borrow.Author.Rules.{rules}
 use Rattle.search.specs.Search.{first_walk}
 use Rattle.search.proofs.search.first_walk.Goals as goal
 

@@ -1,6 +1,5 @@
 -- `search::search::listing` meets its contract: the refusals in the definition's order, then the place entered and
 -- the walk.
-use borrow.Author.Rules.{rules}
 use borrow.Author.Tests.{not-true, not-false}
 use Rattle.search.specs.Search.{listing_on}
 use Rattle.search.proofs.search.listing.Goals as goal

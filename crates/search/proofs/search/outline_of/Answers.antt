@@ -1,5 +1,4 @@
 -- `search::search::outline_of` meets its contract: the depth of the deepest listed term.
-use borrow.Author.Rules.{rules}
 use Rattle.quiet.specs.Quiet.{outline_of}
 use Rattle.search.proofs.search.outline_of.Goals as goal
 

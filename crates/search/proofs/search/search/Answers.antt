@@ -1,5 +1,4 @@
 -- `search::search::search` meets its contract: the listing with room for one schedule.
-use borrow.Author.Rules.{rules}
 use Rattle.search.specs.Search.{search_on}
 use Rattle.search.proofs.search.search.Goals as goal
 

@@ -1,6 +1,5 @@
 use mathlib.Core.Path.{◌≡◌, refl, sym, ap, subst, ◌∙◌}
 use Prim.Native.Nat.{◌<◌}
-use lib.ListN.{length}
 use borrow.Author.Rules.{rules}
 use Rattle.search.specs.Turn.{Lent}
 use Rattle.search.specs.Ahead.{Rows, rows, others, Stood}

@@ -1,16 +1,11 @@
 -- `search::search::walk` meets its contract: the loop keeps what the walk comes to, the configurations standing in rows. The
 -- measure is the turns that it can still take: every turn spends of the budget or closes the walk.
-use mathlib.Core.Path.{◌≡◌, refl, sym, ap, subst, ◌∙◌}
-use Prim.Native.Nat.{◌<◌}
+use mathlib.Core.Path.{◌≡◌}
 use lib.ListN.{length}
-use borrow.Author.Rules.{rules}
-use Rattle.search.specs.Turn.{Lent}
-use Rattle.search.specs.Ahead.{Rows, rows, others, Stood}
-use Rattle.search.specs.Search.{Scene, scene, walk_on, deeps_of, walk_from}
-use Rattle.search.proofs.Laws.{turned_less, walk_more, walk_end}
+use Rattle.search.specs.Ahead.{rows, others}
+use Rattle.search.specs.Search.{scene, walk_on}
 use Rattle.search.proofs.Falls.{turns_left}
-use Rattle.search.proofs.Stacked.{Long, stack_of, stacked, depths, counts_on, stacked_rows, depths_rows}
-use Rattle.search.proofs.InPlace.{scene_of, turned_rows, long_rows}
+use Rattle.search.proofs.Stacked.{Long, stacked, depths, counts_on}
 use Rattle.search.proofs.search.walk.Given as goal
 
 abbrev pub invariant-loop-w : goal.invariant-loop-w

@@ -1,6 +1,5 @@
 -- `search::turn::between` meets its contract: the codes below the two numbers.
 use native.Mathlib.Omega.{arith}
-use borrow.Author.Rules.{rules}
 use Rattle.search.specs.Turn.{between}
 use Rattle.search.proofs.turn.between.Goals as goal
 

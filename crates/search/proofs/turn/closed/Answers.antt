@@ -1,5 +1,4 @@
 -- `search::turn::closed` meets its contract: by computing.
-use borrow.Author.Rules.{rules}
 use Rattle.search.specs.Turn.{closed}
 use Rattle.search.proofs.turn.closed.Goals as goal
 

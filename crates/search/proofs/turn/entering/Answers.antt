@@ -1,5 +1,4 @@
 -- `search::turn::entering` meets its contract: by computing.
-use borrow.Author.Rules.{rules}
 use Rattle.search.specs.Turn.{entering}
 use Rattle.search.proofs.turn.entering.Goals as goal
 

@@ -1,5 +1,4 @@
 -- `search::turn::found` meets its contract: the schedule written, and the room that is left.
-use borrow.Author.Rules.{rules}
 use Rattle.search.specs.Turn.{found_on}
 use Rattle.search.proofs.turn.found.Goals as goal
 

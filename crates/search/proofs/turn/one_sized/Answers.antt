@@ -1,5 +1,4 @@
 -- `search::turn::one_sized` meets its contract: by computing.
-use borrow.Author.Rules.{rules}
 use Rattle.search.specs.Turn.{one_sized}
 use Rattle.search.proofs.turn.one_sized.Goals as goal
 

@@ -1,6 +1,5 @@
 -- `search::turn::one_try_more` meets its contract: the definition's test.
 use borrow.Author.Tests.{lt-ltb, le-ltb}
-use borrow.Author.Rules.{rules}
 use Rattle.search.specs.Turn.{one_try_more}
 use Rattle.search.proofs.turn.one_try_more.Goals as goal
 

@@ -1,5 +1,4 @@
 -- `search::turn::past` meets its contract: the place settled.
-use borrow.Author.Rules.{rules}
 use Rattle.search.specs.Turn.{past}
 use Rattle.search.proofs.turn.past.Goals as goal
 

@@ -1,5 +1,4 @@
 -- `search::turn::reached` meets its contract: by computing.
-use borrow.Author.Rules.{rules}
 use Rattle.search.specs.Turn.{reached}
 use Rattle.search.proofs.turn.reached.Goals as goal
 

@@ -1,6 +1,5 @@
 -- `search::turn::refused_by` meets its contract: the definition's tests on the number.
 use native.Mathlib.Omega.{arith}
-use borrow.Author.Rules.{rules}
 use borrow.Author.Tests.{ne_eqb}
 use Rattle.search.specs.Turn.{refused_by}
 use Rattle.search.proofs.turn.refused_by.Goals as goal

@@ -1,5 +1,4 @@
 -- `search::turn::turn` meets its contract: the definition's cases, in the code's order.
-use borrow.Author.Rules.{rules}
 use borrow.Author.Tests.{lt-ltb, le-ltb, le-leb, lt-leb, eq-eqb, ne_eqb}
 use Rattle.rules.proofs.Parts.{work_lent_lem}
 use Rattle.search.specs.Rows.{control_from}

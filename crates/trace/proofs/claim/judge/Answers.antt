@@ -1,5 +1,4 @@
 -- `trace::claim::judge` meets its contract: the flat records judged as they lie, or the structs, which is the same.
-use borrow.Author.Rules.{rules}
 use Rattle.trace.proofs.Same.{judged_same}
 use Rattle.trace.proofs.claim.judge.Goals as goal
 

@@ -1,5 +1,4 @@
 -- `trace::event::accepts` meets its contract: the numbers of the event, judged by machine's core.
-use borrow.Author.Rules.{rules}
 use Rattle.trace.specs.Event.{accepts_in}
 use Rattle.trace.proofs.event.accepts.Goals as goal
 

@@ -1,6 +1,5 @@
 -- `trace::event::event_from` meets its contract: twelve numbers, each read by its place.
 use Rattle.trace.specs.Event.{event_at}
-use borrow.Author.Rules.{rules}
 use Rattle.trace.proofs.event.event_from.Goals as goal
 
 pub returns : goal.returns

@@ -1,5 +1,4 @@
 -- `trace::event::follow` meets its contract: the numbers of the event, judged by machine's core.
-use borrow.Author.Rules.{rules}
 use Rattle.trace.specs.Event.{follow_in}
 use Rattle.trace.proofs.event.follow.Goals as goal
 

@@ -1,5 +1,4 @@
 -- `trace::event::makes` meets its contract: the numbers of the event, judged by machine's core.
-use borrow.Author.Rules.{rules}
 use Rattle.trace.specs.Event.{makes_in}
 use Rattle.trace.proofs.event.makes.Goals as goal
 

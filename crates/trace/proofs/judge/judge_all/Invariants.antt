@@ -1,6 +1,6 @@
 -- `trace::judge::judge_all` meets its contract: the loop keeps that following from the first event on gives what
 -- following from event i on gives. The measure is the events left.
-use Rattle.std.proofs.Common.{◌≡◌, ◌-◌, ◌≤◌}
+use Rattle.std.proofs.Common.{◌≡◌, ◌-◌}
 use Rattle.trace.specs.Judge.{followed, judge_from}
 use Rattle.trace.proofs.judge.judge_all.Given as goal
 

@@ -1,7 +1,6 @@
 -- `trace::judge::judge_step` meets its contract: closed already, closed by this event, or one step along the path.
 use Rattle.terms.proofs.Laws.{tests}
 use Rattle.trace.specs.Judge.{judge_step}
-use borrow.Author.Rules.{rules}
 use Rattle.trace.proofs.judge.judge_step.Goals as goal
 
 pub returns-then-j : goal.returns-then-j

@@ -1,5 +1,4 @@
 -- `trace::table::blank` meets its contract: the same event at every place.
-use borrow.Author.Rules.{rules}
 use Rattle.trace.proofs.table.blank.Goals as goal
 
 pub returns : goal.returns

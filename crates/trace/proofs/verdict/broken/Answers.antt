@@ -1,7 +1,6 @@
 -- `trace::verdict::broken` meets its contract: no accept, a path that was walked, or the accept's number.
 use Rattle.terms.proofs.Laws.{tests}
 use Rattle.trace.specs.Verdict.{break_in}
-use borrow.Author.Rules.{rules}
 use Rattle.trace.proofs.verdict.broken.Goals as goal
 
 pub returns-then-not-k : goal.returns-then-not-k

@@ -1,7 +1,6 @@
 -- `trace::verdict::follower` meets its contract: with a thread to follow, and without one.
 use Rattle.terms.proofs.Laws.{tests}
 use Rattle.trace.specs.Verdict.{follower_of}
-use borrow.Author.Rules.{rules}
 use Rattle.trace.proofs.verdict.follower.Goals as goal
 
 pub returns-then-wanted : goal.returns-then-wanted

@@ -1,4 +1,4 @@
-use Rattle.std.proofs.Common.{◌≡◌, ℕ, suc, zero, ◌+◌, ◌-◌, ◌<◌, ◌≤◌, List, get_or, refl, sym, ◌∙◌, arith}
+use Rattle.std.proofs.Common.{◌≡◌, ℕ, suc, ◌+◌, ◌-◌, ◌<◌, ◌≤◌, List, get_or, refl, sym, ◌∙◌, arith}
 use Rattle.trace.specs.Event.{no_event}
 use Rattle.trace.specs.Judge.{followed}
 use Rattle.trace.specs.Verdict.{verdict_from, verdict_step, follower_of}

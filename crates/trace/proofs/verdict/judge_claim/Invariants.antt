@@ -1,6 +1,6 @@
 -- `trace::verdict::judge_claim` meets its contract: the loop keeps that judging from the first event on gives what
 -- judging from event i on gives. The measure is the events left.
-use Rattle.std.proofs.Common.{◌≡◌, ◌-◌, ◌≤◌}
+use Rattle.std.proofs.Common.{◌≡◌, ◌-◌}
 use Rattle.trace.specs.Verdict.{judged, verdict_from}
 use Rattle.trace.proofs.verdict.judge_claim.Given as goal
 

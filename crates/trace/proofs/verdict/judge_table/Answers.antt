@@ -1,9 +1,6 @@
-use Rattle.std.proofs.Common.{◌≡◌, ℕ, ◌+◌, ◌-◌, ◌<◌, ◌≤◌, ◌++◌, List, length, take, refl, sym, ap, ◌∙◌, arith, rules, length-set}
+use Rattle.std.proofs.Common.{length, ap, ◌∙◌, arith, length-set}
 use Rattle.std.proofs.lemmas.List.{length-replicate}
-use Rattle.trace.specs.Event.{no_event, event_at}
-use Rattle.trace.specs.Table.{events_from, standing}
-use Rattle.trace.specs.Verdict.{judged}
-use Rattle.trace.specs.declared.event.Event.{Event}
+use Rattle.trace.specs.Event.{no_event}
 use Rattle.trace.proofs.Stood.{stood_start, stood_more, stood_end}
 use Rattle.trace.proofs.verdict.judge_table.Goals as goal
 
@@ -14,11 +11,10 @@ loop-i-init c =
 pub loop-i-preserved : goal.loop-i-preserved
 loop-i-preserved c =
     let i = c.loop-i.i in
-    let long = c.loop-i.invariant.2 in
-    (
+    let long = c.loop-i.invariant.2 in (
       omega arith,
       rw (c.put_event.ensures, c.event_from-e.ensures)
-      (c.loop-i.invariant.1 ∙ stood_more 4096 i c.args.records.now c.loop-i.es (omega arith) (omega (arith, long))),
+          (c.loop-i.invariant.1 ∙ stood_more 4096 i c.args.records.now c.loop-i.es (omega arith) (omega (arith, long))),
       ap length c.put_event.ensures ∙ length-set c.loop-i.es i c.event_from-e.result ∙ long,
     )
 

@@ -2,7 +2,6 @@
 -- followed, and without one.
 use Rattle.terms.proofs.Laws.{tests}
 use Rattle.trace.specs.Verdict.{verdict_step}
-use borrow.Author.Rules.{rules}
 use Rattle.trace.proofs.verdict.verdict_step.Goals as goal
 
 pub returns-then-k : goal.returns-then-k

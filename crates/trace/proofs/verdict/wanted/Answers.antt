@@ -1,7 +1,6 @@
 -- `trace::verdict::wanted` meets its contract: each early return is one test of the definition.
 use Rattle.terms.proofs.Laws.{tests}
 use Rattle.trace.specs.Verdict.{wants}
-use borrow.Author.Rules.{rules}
 use Rattle.trace.proofs.verdict.wanted.Goals as goal
 
 pub returns-then-k : goal.returns-then-k

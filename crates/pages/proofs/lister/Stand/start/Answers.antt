@@ -1,5 +1,4 @@
 -- `pages::lister::Stand::start` meets its contract: the start place is all that is computed.
-use borrow.Author.Rules.{rules}
 use Rattle.pages.specs.ListPage.{stand_start}
 use Rattle.pages.proofs.lister.Stand.start.Goals as goal
 

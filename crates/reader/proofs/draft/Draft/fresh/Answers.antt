@@ -1,5 +1,4 @@
 -- `reader::draft::Draft::fresh` meets its contract: the fields one by one, after its call.
-use borrow.Author.Rules.{rules}
 use Rattle.reader.specs.Drafts.{fresh_draft}
 use Rattle.reader.proofs.draft.Draft.fresh.Goals as goal
 

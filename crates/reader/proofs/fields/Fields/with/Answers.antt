@@ -1,6 +1,5 @@
 -- `reader::fields::Fields::with` meets its contract: there is room for the number, or not.
 use borrow.Author.Tests.{lt-ltb, le-ltb}
-use borrow.Author.Rules.{rules}
 use Rattle.reader.specs.Numbers.{fields_with}
 use Rattle.reader.proofs.fields.Fields.with.Goals as goal
 
