@@ -21,7 +21,7 @@ build() {
     folder=$here/crates/$1
     binary=$folder/out/$1
     if [ -f "$binary" ] && [ -z "$(find "$here/crates.txt" "$here/crates" -name out -prune -o -type f -newer "$binary" -print 2>/dev/null | head -n 1)" ]; then return; fi
-    say "proving and building '$1'; the first time this takes some ten minutes"
+    say "proving and building '$1'; the first time this takes some minutes"
     log=$(mktemp) || exit 2
     input=$folder/stdin
     [ -f "$input" ] || input=/dev/null

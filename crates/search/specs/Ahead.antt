@@ -1,5 +1,5 @@
 -- One turn of the walk over rows, in the code's own order. Nothing here is to be believed: rows are how it is done, and a turn
--- over them is the turn of Search over the configurations that stand in them (proofs/InPlace: turned-rows).
+-- over them is the turn of Search over the configurations that stand in them (proofs/InPlace: turned_rows).
 use Rattle.std.specs.Prelude.{ℕ, ◌+◌, Bool, true, List, [], get_or, set}
 use Rattle.terms.specs.Base.{pick, Held, held}
 use Rattle.state.specs.declared.control.Control.{Control}
