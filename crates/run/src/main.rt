@@ -2,6 +2,7 @@
 // what came of each.
 #![tactic(auto)]
 
+use intake::read_input;
 use lines::codes::{Codes, last_codes};
 use lines::field::{front_of, rest_of};
 use lines::put::put_refused;
@@ -9,7 +10,6 @@ use model::records::Model;
 use pages::answers::{first_codes, read_codes};
 use pages::runner::run_page;
 use std::io;
-use std::io::Read;
 use std::process::ExitCode;
 
 fn say(rt: &impl Print, page: &[u8], bytes: usize) -> io::Result<()> {
@@ -64,24 +64,17 @@ fn answer(rt: &impl Print, s: &[u8]) -> io::Result<()> {
     }
 }
 
-// The input up to 65,537 bytes, of which the last says that it is too long. A closed input (9 is EBADF) is an empty one.
-fn input(rt: &HostRuntime) -> io::Result<Vec<u8>> {
-    let mut s = Vec::new(rt.alloc());
-    match rt.stdin().take(65537).read_to_end(&mut s) {
-        Err(e) if e.raw_os_error() != Some(9) => Err(e),
-        _ => Ok(s),
-    }
-}
-
 fn failed(rt: &impl Eprint, what: &str) -> ExitCode {
     let _ = eprintln!(rt; "run: {what}");
     ExitCode::FAILURE
 }
 
+// One byte more than an input may have: a room that is full says that it is too long.
 fn main(rt: HostRuntime) -> ExitCode {
-    match input(&rt) {
+    let mut room = [0u8; 65537];
+    match read_input(&rt, &mut room) {
         Err(_) => failed(&rt, "the input could not be read"),
-        Ok(s) => match answer(&rt, &s) {
+        Ok(n) => match answer(&rt, &room[..n]) {
             Err(_) => failed(&rt, "the output could not be written"),
             Ok(_) => ExitCode::SUCCESS,
         },

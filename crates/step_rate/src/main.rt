@@ -5,13 +5,13 @@
 
 ghost use Rattle.std.specs.Prelude.{◌≤◌};
 
+use intake::read_input;
 use model::records::{
     Action, Claim, Listed, Machine, Model, pack_action, pack_machine, pack_thread,
 };
 use rules::inner::{Reply, Stepped, try_step};
 use state::control::Control;
 use std::io;
-use std::io::Read;
 use terms::entry::add;
 use terms::table::{Table, cut};
 use terms::term::Term;
@@ -148,7 +148,7 @@ fn tries(m: Model, code: u16) -> u32 {
 
 fn main(rt: HostRuntime) -> io::Result<()> {
     let mut byte = [0u8; 1];
-    rt.stdin().read(&mut byte)?;
+    read_input(&rt, &mut byte)?;
     let sum = tries(model(), code_for(byte[0]));
     println!(rt; "{sum}")
 }
