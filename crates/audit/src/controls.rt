@@ -1,8 +1,8 @@
 // The soundness of a configuration: its table begins with the model's, and its threads, locks, values and counters keep
 // every rule. For a sound model.
-ghost use Rattle.std.specs.Prelude.{max, ◌≡◌, take, eqb};
-ghost use Rattle.terms.specs.Base.{also};
-ghost use Rattle.model.specs.Records.{thread_in};
+#![tactic(auto, unfolding(crate::specs::Configuration::sound_control, crate::specs::Configuration::table_sound, crate::specs::Configuration::leaf_sound, crate::specs::Configuration::counters_sound, crate::specs::Configuration::slot_sound, crate::specs::Configuration::thread_fits, crate::specs::Configuration::same_serial, crate::specs::Configuration::var_sound, crate::specs::Configuration::is_bound, crate::specs::Configuration::lock_sound, crate::specs::Configuration::value_sound))]
+
+ghost use Rattle.std.specs.Prelude.{◌≡◌, take};
 ghost use Rattle.state.specs.FrameSound.{live_on, listed_on};
 ghost use Rattle.audit.specs.Configuration.{sound_control, table_sound, begins_with, leaves_sound, leaf_sound, counters_sound, slots_sound, slot_sound, thread_fits, serials_differ, new_serial, same_serial, vars_sound, var_sound, is_bound, locks_sound, lock_sound, values_sound, value_sound, threads_fit, machine_fits};
 
@@ -13,86 +13,43 @@ use state::control::{Control, Frame};
 use state::lock::{lock_in, pack_lock};
 use state::reset::is_on;
 use state::slot::{Slot, pack_slot, slot_at, slot_in};
-use terms::line::{bit, line_at, term_in};
+use terms::line::{line_at, term_in};
 use terms::sound::sound;
-use terms::term::both;
 
-pub fn sound_control(m: Model, t: &[u64; 512], s: Control) -> bool
-    ensures { result ≡ sound_control m t.now s }
+pub fn sound_control(m: &Model, t: &[u64; 512], s: &Control) -> bool
+    ensures { result ≡ sound_control m.now t.now s.now }
 {
-    let f = s.frame;
-    let slots = f.slots;
-    let locks = f.locks;
-    let serial = f.serial;
-    let values = s.values;
-    let vars = s.vars;
-    let count = s.count;
-    let threads = m.threads;
-    if !table_sound(m, t, count, f.nonce) {
-        return false;
-    }
-    if !counters_sound(f) {
-        return false;
-    }
-    if !slots_sound(slots, serial, &m.lengths, m.programs, m.machine_count) {
-        return false;
-    }
-    if !serials_differ(&slots) {
-        return false;
-    }
-    if !vars_sound(vars, &slots, t, count) {
-        return false;
-    }
-    if !locks_sound(locks, serial, m.location_count) {
-        return false;
-    }
-    if !values_sound(values, t, count, m.location_count) {
-        return false;
-    }
-    threads_fit(slots, threads, m.thread_count)
+    table_sound(m, t, s)
+        && counters_sound(&s.frame)
+        && slots_sound(m, &s.frame)
+        && serials_differ(&s.frame.slots)
+        && vars_sound(t, s)
+        && locks_sound(m, &s.frame)
+        && values_sound(m, t, s)
+        && threads_fit(m, &s.frame.slots)
 }
 
-fn table_sound(m: Model, t: &[u64; 512], count: u16, nonce: u16) -> bool
-    ensures { result ≡ table_sound m t.now count nonce }
+fn table_sound(m: &Model, t: &[u64; 512], s: &Control) -> bool
+    ensures { result ≡ table_sound m.now t.now s.now.count s.now.frame.nonce }
 {
-    if !sound(t, count) {
-        return false;
-    }
-    if count < m.count {
-        return false;
-    }
-    if !begins_with(t, &m.lines, m.count) {
-        return false;
-    }
-    leaves_sound(t, count, m.programs, nonce)
+    sound(t, s.count)
+        && m.count <= s.count
+        && begins_with(t, &m.lines, m.count)
+        && leaves_sound(m, t, s)
 }
 
 // The first count lines of both tables are the same.
-fn begins_with<'a>(t: &'a [u64; 512], lines: &'a [u64; 512], count: u16) -> bool
+fn begins_with(t: &[u64; 512], lines: &[u64; 512], count: u16) -> bool
     ensures { result ≡ begins_with t.now lines.now count }
 {
-    let mut i = 0;
-    while i < count {
-        if line_at(t, i) != line_at(lines, i) {
-            return false;
-        }
-        i += 1;
-    }
-    true
+    (0..count).all(|i| line_at(t, i) == line_at(lines, i))
 }
 
 // Code terms name a program, and nonces are below the next.
-fn leaves_sound(t: &[u64; 512], count: u16, programs: u8, nonce: u16) -> bool
-    ensures { result ≡ leaves_sound t.now count programs nonce }
+fn leaves_sound(m: &Model, t: &[u64; 512], s: &Control) -> bool
+    ensures { result ≡ leaves_sound t.now s.now.count m.now.programs s.now.frame.nonce }
 {
-    let mut i = 0;
-    while i < count {
-        if !leaf_sound(line_at(t, i), programs, nonce) {
-            return false;
-        }
-        i += 1;
-    }
-    true
+    (0..s.count).all(|i| leaf_sound(line_at(t, i), m.programs, s.frame.nonce))
 }
 
 fn leaf_sound(n: u64, programs: u8, nonce: u16) -> bool
@@ -105,119 +62,71 @@ fn leaf_sound(n: u64, programs: u8, nonce: u16) -> bool
     names_program(x, programs)
 }
 
-fn counters_sound(f: Frame) -> bool
-    ensures { result ≡ counters_sound f }
+fn counters_sound(f: &Frame) -> bool
+    ensures { result ≡ counters_sound f.now }
 {
-    if Control::STEPS < f.steps {
-        return false;
-    }
-    let most = Model::THREADS as u32 + f.steps as u32;
-    if most < f.serial as u32 {
-        return false;
-    }
-    f.nonce <= f.steps
+    let steps = u32::from(f.steps);
+    f.steps <= Control::STEPS
+        && u32::from(f.serial) <= u32::from(Model::THREADS) + steps
+        && f.nonce <= f.steps
 }
 
-fn slots_sound(
-    slots: [u64; 12],
-    serial: u16,
-    lengths: &[u8; 32],
-    programs: u8,
-    machines: u8,
-) -> bool
-    ensures { result ≡ slots_sound slots serial lengths.now programs machines }
+fn slots_sound(m: &Model, f: &Frame) -> bool
+    ensures { result ≡ slots_sound f.now.slots f.now.serial m.now.lengths m.now.programs m.now.machine_count }
 {
-    let mut i = 0;
-    while i < 12 {
-        if !slot_sound(slots[i], serial, lengths, programs, machines) {
-            return false;
-        }
-        i += 1;
-    }
-    true
+    f.slots.iter().all(|n| slot_sound(m, *n, f.serial))
 }
 
 // A free slot is all zero; a live thread is exactly its number.
-fn slot_sound(n: u64, serial: u16, lengths: &[u8; 32], programs: u8, machines: u8) -> bool
-    ensures { result ≡ slot_sound n serial lengths.now programs machines }
+fn slot_sound(m: &Model, n: u64, serial: u16) -> bool
+    ensures { result ≡ slot_sound n serial m.now.lengths m.now.programs m.now.machine_count }
 {
     let s = slot_in(n);
     if !s.live {
         return n == 0;
     }
-    if pack_slot(s) != n {
-        return false;
-    }
-    thread_fits(s, serial, lengths, programs, machines)
+    pack_slot(s) == n && thread_fits(m, s, serial)
 }
 
 // A live thread: its serial is below the next, its machine and program are listed, and it stands before its program's end.
-fn thread_fits(s: Slot, serial: u16, lengths: &[u8; 32], programs: u8, machines: u8) -> bool
-    ensures { result ≡ thread_fits s serial lengths.now programs machines }
+fn thread_fits(m: &Model, s: Slot, serial: u16) -> bool
+    ensures { result ≡ thread_fits s serial m.now.lengths m.now.programs m.now.machine_count }
 {
-    if serial <= s.serial {
-        return false;
-    }
-    if machines <= s.machine {
-        return false;
-    }
-    if programs <= s.program {
-        return false;
-    }
-    s.position < length_at(lengths, s.program)
+    s.serial < serial
+        && s.machine < m.machine_count
+        && s.program < m.programs
+        && s.position < length_at(&m.lengths, s.program)
 }
 
 // Live threads have different serials.
 fn serials_differ(slots: &[u64; 12]) -> bool
     ensures { result ≡ serials_differ slots.now }
 {
-    let mut i = 0;
-    while i < 12 {
-        if !new_serial(slots, i) {
-            return false;
-        }
-        i += 1;
-    }
-    true
+    (0..Slot::SLOTS).all(|i| new_serial(slots, i))
 }
 
 // No earlier slot has a live thread with the serial of this one's.
 fn new_serial(slots: &[u64; 12], i: u8) -> bool
     ensures { result ≡ new_serial slots.now i }
 {
-    let mut j = 0;
-    while j < i {
-        if same_serial(slot_at(slots, j), slot_at(slots, i)) {
-            return false;
-        }
-        j += 1;
-    }
-    true
+    (0..i).all(|j| !same_serial(slot_at(slots, j), slot_at(slots, i)))
 }
 
+// kept: no equality of the type, since other fields of the two may differ
 fn same_serial(p: Slot, q: Slot) -> bool
     ensures { result ≡ same_serial p q }
 {
-    if both(p.live, q.live) {
-        p.serial == q.serial
-    } else {
-        false
-    }
+    p.live && q.live && p.serial == q.serial
 }
 
 // Exactly the variables of earlier actions are bound.
-fn vars_sound(vars: [u16; 192], slots: &[u64; 12], t: &[u64; 512], count: u16) -> bool
-    ensures { result ≡ vars_sound vars slots.now t.now count }
+fn vars_sound(t: &[u64; 512], s: &Control) -> bool
+    ensures { result ≡ vars_sound s.now.vars s.now.frame.slots t.now s.now.count }
 {
-    let mut i = 0;
-    while i < 192 {
-        let s = slot_at(slots, (i / 16) as u8);
-        if !var_sound(vars[i], s, (i % 16) as u8, t, count) {
-            return false;
-        }
-        i += 1;
-    }
-    true
+    s.vars.iter().enumerate().all(|(i, v)| {
+        let thread = slot_at(&s.frame.slots, (i / 16) as u8);
+        var_sound(*v, thread, (i % 16) as u8, t, s.count)
+    })
 }
 
 fn var_sound(v: u16, s: Slot, k: u8, t: &[u64; 512], count: u16) -> bool
@@ -233,20 +142,17 @@ fn var_sound(v: u16, s: Slot, k: u8, t: &[u64; 512], count: u16) -> bool
 fn is_bound(s: Slot, k: u8) -> bool
     ensures { result ≡ is_bound s k }
 {
-    if s.live { k < s.position } else { false }
+    s.live && k < s.position
 }
 
-fn locks_sound(locks: [u32; 32], serial: u16, locs: u8) -> bool
-    ensures { result ≡ locks_sound locks serial locs }
+fn locks_sound(m: &Model, f: &Frame) -> bool
+    ensures { result ≡ locks_sound f.now.locks f.now.serial m.now.location_count }
 {
-    let mut i = 0;
-    while i < 32 {
-        if !lock_sound(locks[i], serial, i < locs as usize) {
-            return false;
-        }
-        i += 1;
-    }
-    true
+    let listed = usize::from(m.location_count);
+    f.locks
+        .iter()
+        .enumerate()
+        .all(|(i, n)| lock_sound(*n, f.serial, i < listed))
 }
 
 fn lock_sound(n: u32, serial: u16, listed: bool) -> bool
@@ -256,23 +162,17 @@ fn lock_sound(n: u32, serial: u16, listed: bool) -> bool
     if !l.held {
         return n == 0;
     }
-    if pack_lock(l) != n {
-        return false;
-    }
-    both(listed, l.serial < serial)
+    pack_lock(l) == n && listed && l.serial < serial
 }
 
-fn values_sound(values: [u16; 32], t: &[u64; 512], count: u16, locs: u8) -> bool
-    ensures { result ≡ values_sound values t.now count locs }
+fn values_sound(m: &Model, t: &[u64; 512], s: &Control) -> bool
+    ensures { result ≡ values_sound s.now.values t.now s.now.count m.now.location_count }
 {
-    let mut i = 0;
-    while i < 32 {
-        if !value_sound(values[i], t, count, i < locs as usize) {
-            return false;
-        }
-        i += 1;
-    }
-    true
+    let listed = usize::from(m.location_count);
+    s.values
+        .iter()
+        .enumerate()
+        .all(|(i, v)| value_sound(*v, t, s.count, i < listed))
 }
 
 fn value_sound(v: u16, t: &[u64; 512], count: u16, listed: bool) -> bool
@@ -285,61 +185,31 @@ fn value_sound(v: u16, t: &[u64; 512], count: u16, listed: bool) -> bool
     }
 }
 
-fn threads_fit(slots: [u64; 12], threads: [u32; 8], listed: u8) -> bool
-    ensures { result ≡ threads_fit slots threads listed }
+fn threads_fit(m: &Model, slots: &[u64; 12]) -> bool
+    ensures { result ≡ threads_fit slots.now m.now.threads m.now.thread_count }
 {
-    let mut k = 0;
-    while k < 4 {
-        if !machine_fits(slots, threads, listed, k) {
-            return false;
-        }
-        k += 1;
-    }
-    true
+    (0..Model::MACHINES).all(|k| machine_fits(m, slots, k))
 }
 
 // Live threads of a machine are at most the listed ones, or 1 where none was listed.
-fn machine_fits(slots: [u64; 12], threads: [u32; 8], listed: u8, k: u8) -> bool
-    ensures { result ≡ machine_fits slots threads listed k }
+fn machine_fits(m: &Model, slots: &[u64; 12], k: u8) -> bool
+    ensures { result ≡ machine_fits slots.now m.now.threads m.now.thread_count k }
 {
-    let live = live_count(slots, k);
-    let most = most_of(listed_count(threads, listed, k));
-    live <= most
+    live_count(slots, k) <= listed_count(m, k).max(1)
 }
 
-fn most_of(n: u32) -> u32
-    ensures { result ≡ max 1 n }
+fn listed_count(m: &Model, k: u8) -> usize
+    ensures { result ≡ listed_on k (take m.now.thread_count m.now.threads) }
 {
-    if n == 0 { 1 } else { n }
+    m.threads
+        .iter()
+        .take(usize::from(m.thread_count))
+        .filter(|n| thread_in(**n).machine == k)
+        .count()
 }
 
-fn listed_count(threads: [u32; 8], listed: u8, k: u8) -> u32
-    ensures { result ≡ listed_on k (take listed threads) }
+fn live_count(slots: &[u64; 12], k: u8) -> usize
+    ensures { result ≡ live_on k slots.now }
 {
-    let mut n = 0u32;
-    let mut i = 0;
-    while i < 8 {
-        n += bit(listed_there(threads[i], i < listed as usize, k)) as u32;
-        i += 1;
-    }
-    n
-}
-
-fn listed_there(n: u32, listed: bool, k: u8) -> bool
-    ensures { result ≡ also listed (eqb (thread_in n).machine k) }
-{
-    let l = thread_in(n);
-    both(listed, l.machine == k)
-}
-
-fn live_count(slots: [u64; 12], k: u8) -> u32
-    ensures { result ≡ live_on k slots }
-{
-    let mut n = 0u32;
-    let mut i = 0;
-    while i < 12 {
-        n += bit(is_on(slots[i], k)) as u32;
-        i += 1;
-    }
-    n
+    slots.iter().filter(|n| is_on(**n, k)).count()
 }

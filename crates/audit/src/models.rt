@@ -1,5 +1,7 @@
 // The soundness of a model, for every Model: every limit, reference, program and kind rule kept, and whatever stands past
 // a count zero.
+#![tactic(auto, unfolding(crate::specs::Models::sound_model, crate::specs::Models::may_be_listed, crate::specs::Models::names_program))]
+
 ghost use Rattle.std.specs.Prelude.{◌≡◌};
 ghost use Rattle.audit.specs.Models.{sound_model, terms_listed, may_be_listed, names_program};
 
@@ -12,66 +14,37 @@ use terms::sound::sound;
 use terms::table::Table;
 use terms::term::Term;
 
-pub fn sound_model(m: Model) -> bool
-    ensures { result ≡ sound_model m }
+pub fn sound_model(m: &Model) -> bool
+    ensures { result ≡ sound_model m.now }
 {
-    if m.edition != 1 {
-        return false;
-    }
-    let count = m.count;
-    if !sound(&m.lines, count) {
-        return false;
-    }
-    let programs = m.programs;
-    if !terms_listed(&m.lines, count, programs) {
-        return false;
-    }
-    if !programs_sound(m) {
-        return false;
-    }
-    if !machines_sound(m.machines, m.machine_count, programs) {
-        return false;
-    }
-    if !locations_sound(m) {
-        return false;
-    }
-    if !threads_sound(m.threads, m.thread_count, m.machine_count, programs) {
-        return false;
-    }
-    claim_sound(m.claim, programs, m.machine_count)
+    m.edition == 1
+        && sound(&m.lines, m.count)
+        && terms_listed(m)
+        && programs_sound(m)
+        && machines_sound(m)
+        && locations_sound(m)
+        && threads_sound(m)
+        && claim_sound(m)
 }
 
 // No nonce is listed, and code terms name a program.
-fn terms_listed(t: &[u64; 512], count: u16, programs: u8) -> bool
-    ensures { result ≡ terms_listed t.now count programs }
+fn terms_listed(m: &Model) -> bool
+    ensures { result ≡ terms_listed m.now.lines m.now.count m.now.programs }
 {
-    let mut i = Table::FIXED;
-    while i < count {
-        if !may_be_listed(line_at(t, i), programs) {
-            return false;
-        }
-        i += 1;
-    }
-    true
+    (Table::FIXED..m.count).all(|i| may_be_listed(line_at(&m.lines, i), m.programs))
 }
 
+// kept: a kind is a number here (7 a nonce, 8 code), as a line of the table may hold any.
 fn may_be_listed(n: u64, programs: u8) -> bool
     ensures { result ≡ may_be_listed n programs }
 {
     let x = term_in(n);
-    if x.kind == 7 {
-        return false;
-    }
-    names_program(x, programs)
+    x.kind != 7 && names_program(x, programs)
 }
 
 // A code term names a program; of any other term there is nothing to say.
 pub fn names_program(x: Term, programs: u8) -> bool
     ensures { result ≡ names_program x programs }
 {
-    if x.kind == 8 {
-        x.a < programs as u16
-    } else {
-        true
-    }
+    x.kind != 8 || x.a < u16::from(programs)
 }

@@ -1,54 +1,35 @@
 // The soundness of a model's programs: their number and lengths, each action by itself and by what it names, and no two
 // programs alike.
+#![tactic(auto, unfolding(crate::specs::Programs::programs_sound, crate::specs::Programs::program_sound, crate::specs::Programs::length_fits, crate::specs::Programs::action_sound, crate::specs::Programs::action_fits, crate::specs::Programs::last_if_closing, crate::specs::Programs::loc_fits, crate::specs::Programs::listed_and_fits, crate::specs::Programs::operand_fits, crate::specs::Programs::equal_programs))]
+
 ghost use Rattle.std.specs.Prelude.{◌≡◌};
-ghost use Rattle.audit.specs.Programs.{programs_sound, each_program, length_fits, actions_sound, action_sound, action_fits, last_if_closing, loc_fits, listed_and_fits, operand_fits, programs_differ, new_program, equal_programs, equal_actions};
+ghost use Rattle.audit.specs.Programs.{programs_sound, each_program, program_sound, length_fits, actions_sound, action_sound, action_fits, last_if_closing, loc_fits, listed_and_fits, operand_fits, programs_differ, new_program, equal_programs, equal_actions};
 
 use crate::tops::{top_at, tops};
 use model::fields::{closes, in_form, kind_fits, names_location};
 use model::records::{
     Action, Model, action_in, action_number, length_at, location_at, pack_action,
 };
-use terms::term::both;
 
-pub fn programs_sound(m: Model) -> bool
-    ensures { result ≡ programs_sound m }
+pub fn programs_sound(m: &Model) -> bool
+    ensures { result ≡ programs_sound m.now }
 {
-    if m.programs < 1 {
-        return false;
-    }
-    if Model::PROGRAMS < m.programs {
-        return false;
-    }
-    let known = tops(&m.lines);
-    if !each_program(m, &known) {
-        return false;
-    }
-    programs_differ(&m.actions, &m.lengths, m.programs)
+    (1..=Model::PROGRAMS).contains(&m.programs)
+        && each_program(m, &tops(&m.lines))
+        && programs_differ(m)
 }
 
-fn each_program(m: Model, known: &[u8; 512]) -> bool
-    ensures { result ≡ each_program m known.now }
+fn each_program(m: &Model, known: &[u8; 512]) -> bool
+    ensures { result ≡ each_program m.now known.now }
 {
-    let mut p = 0;
-    while p < 32 {
-        let length = length_at(&m.lengths, p);
-        if !length_fits(p, length, m.programs) {
-            return false;
-        }
-        if !actions_sound(
-            &m.actions,
-            &m.locations,
-            known,
-            p,
-            length,
-            m.location_count,
-            m.count,
-        ) {
-            return false;
-        }
-        p += 1;
-    }
-    true
+    (0..Model::PROGRAMS).all(|p| program_sound(m, known, p))
+}
+
+fn program_sound(m: &Model, known: &[u8; 512], p: u8) -> bool
+    ensures { result ≡ program_sound m.now known.now p }
+{
+    let length = length_at(&m.lengths, p);
+    length_fits(p, length, m.programs) && actions_sound(m, known, p, length)
 }
 
 // A listed program has 1 to 16 actions, one past the number of programs none.
@@ -56,174 +37,90 @@ fn length_fits(p: u8, length: u8, programs: u8) -> bool
     ensures { result ≡ length_fits p length programs }
 {
     if p < programs {
-        both(1 <= length, length <= Model::ACTIONS)
+        (1..=Model::ACTIONS).contains(&length)
     } else {
         length == 0
     }
 }
 
-fn actions_sound<'a>(
-    actions: &'a [u64; 512],
-    locations: &'a [u32; 32],
-    known: &[u8; 512],
-    p: u8,
-    length: u8,
-    locs: u8,
-    count: u16,
-) -> bool
-    ensures { result ≡ actions_sound actions.now locations.now known.now p length locs count }
+fn actions_sound(m: &Model, known: &[u8; 512], p: u8, length: u8) -> bool
+    ensures { result ≡ actions_sound m.now.actions m.now.locations known.now p length m.now.location_count m.now.count }
 {
-    let mut k = 0;
-    while k < 16 {
-        let n = action_number(actions, p, k);
-        if !action_sound(n, locations, known, k, length, locs, count) {
-            return false;
-        }
-        k += 1;
-    }
-    true
+    (0..Model::ACTIONS).all(|k| action_sound(m, known, action_number(&m.actions, p, k), k, length))
 }
 
 // Action k of a program of that length; past it the number is 0.
-fn action_sound(
-    n: u64,
-    locations: &[u32; 32],
-    known: &[u8; 512],
-    k: u8,
-    length: u8,
-    locs: u8,
-    count: u16,
-) -> bool
-    ensures { result ≡ action_sound n locations.now known.now k length locs count }
+fn action_sound(m: &Model, known: &[u8; 512], n: u64, k: u8, length: u8) -> bool
+    ensures { result ≡ action_sound n m.now.locations known.now k length m.now.location_count m.now.count }
 {
     if length <= k {
         return n == 0;
     }
     let a = action_in(n);
-    if pack_action(a) != n {
-        return false;
-    }
-    if !last_if_closing(a.op, k, length) {
-        return false;
-    }
-    action_fits(a, locations, known, k, locs, count)
+    pack_action(a) == n && last_if_closing(a.op, k, length) && action_fits(m, known, a, k)
 }
 
 // No action follows a jump or a late launch.
 fn last_if_closing(op: u8, k: u8, length: u8) -> bool
     ensures { result ≡ last_if_closing op k length }
 {
-    if closes(op) {
-        k as u16 + 1 == length as u16
-    } else {
-        true
-    }
+    !closes(op) || u16::from(k) + 1 == u16::from(length)
 }
 
 // Action k, by its form and by what its fields name.
-fn action_fits(
-    a: Action,
-    locations: &[u32; 32],
-    known: &[u8; 512],
-    k: u8,
-    locs: u8,
-    count: u16,
-) -> bool
-    ensures { result ≡ action_fits a locations.now known.now k locs count }
+fn action_fits(m: &Model, known: &[u8; 512], a: Action, k: u8) -> bool
+    ensures { result ≡ action_fits a m.now.locations known.now k m.now.location_count m.now.count }
 {
-    if !in_form(a) {
-        return false;
-    }
-    if !loc_fits(locations, a, locs) {
-        return false;
-    }
-    if !operand_fits(known, a.x, k, count) {
-        return false;
-    }
-    operand_fits(known, a.y, k, count)
+    in_form(a)
+        && loc_fits(m, a)
+        && operand_fits(known, a.x, k, m.count)
+        && operand_fits(known, a.y, k, m.count)
 }
 
 // Where the loc field names a location, it is listed and of a kind that fits.
-fn loc_fits(locations: &[u32; 32], a: Action, locs: u8) -> bool
-    ensures { result ≡ loc_fits locations.now a locs }
+fn loc_fits(m: &Model, a: Action) -> bool
+    ensures { result ≡ loc_fits m.now.locations a m.now.location_count }
 {
-    if names_location(a.op) {
-        listed_and_fits(locations, a, locs)
-    } else {
-        true
-    }
+    !names_location(a.op) || listed_and_fits(m, a)
 }
 
-fn listed_and_fits(locations: &[u32; 32], a: Action, locs: u8) -> bool
-    ensures { result ≡ listed_and_fits locations.now a locs }
+fn listed_and_fits(m: &Model, a: Action) -> bool
+    ensures { result ≡ listed_and_fits m.now.locations a m.now.location_count }
 {
-    if a.loc < locs as u16 {
-        let l = location_at(locations, a.loc);
-        kind_fits(a.op, l.kind)
-    } else {
-        false
-    }
+    a.loc < u16::from(m.location_count) && kind_fits(a.op, location_at(&m.locations, a.loc).kind)
 }
 
 // A listed term with no variable of the same or a later action.
 fn operand_fits(known: &[u8; 512], label: u16, k: u8, count: u16) -> bool
     ensures { result ≡ operand_fits known.now label k count }
 {
-    if label < count {
-        top_at(known, label) <= k
-    } else {
-        false
-    }
+    label < count && top_at(known, label) <= k
 }
 
 // No two programs have equal actions.
-fn programs_differ<'a>(actions: &'a [u64; 512], lengths: &'a [u8; 32], programs: u8) -> bool
-    ensures { result ≡ programs_differ actions.now lengths.now programs }
+fn programs_differ(m: &Model) -> bool
+    ensures { result ≡ programs_differ m.now.actions m.now.lengths m.now.programs }
 {
-    let mut p = 0;
-    while p < programs {
-        if !new_program(actions, lengths, p) {
-            return false;
-        }
-        p += 1;
-    }
-    true
+    (0..m.programs).all(|p| new_program(&m.actions, &m.lengths, p))
 }
 
-// No earlier program has equal actions.
-pub fn new_program<'a>(actions: &'a [u64; 512], lengths: &'a [u8; 32], p: u8) -> bool
+// No earlier program has equal actions. The reader asks it before a model is whole, so it takes the two arrays.
+pub fn new_program(actions: &[u64; 512], lengths: &[u8; 32], p: u8) -> bool
     ensures { result ≡ new_program actions.now lengths.now p }
 {
-    let mut q = 0;
-    while q < p {
-        if equal_programs(actions, lengths, q, p) {
-            return false;
-        }
-        q += 1;
-    }
-    true
+    (0..p).all(|q| !equal_programs(actions, lengths, q, p))
 }
 
 // A number of all zeros is an action too, so the lengths are compared first.
-fn equal_programs<'a>(actions: &'a [u64; 512], lengths: &'a [u8; 32], q: u8, p: u8) -> bool
+fn equal_programs(actions: &[u64; 512], lengths: &[u8; 32], q: u8, p: u8) -> bool
     ensures { result ≡ equal_programs actions.now lengths.now q p }
 {
-    if length_at(lengths, q) == length_at(lengths, p) {
-        equal_actions(actions, q, p)
-    } else {
-        false
-    }
+    length_at(lengths, q) == length_at(lengths, p) && equal_actions(actions, q, p)
 }
 
+// Place by place, since a program past the last one reads as all zeros and has no part of the array.
 fn equal_actions(actions: &[u64; 512], q: u8, p: u8) -> bool
     ensures { result ≡ equal_actions actions.now q p }
 {
-    let mut k = 0;
-    while k < 16 {
-        if action_number(actions, q, k) != action_number(actions, p, k) {
-            return false;
-        }
-        k += 1;
-    }
-    true
+    (0..Model::ACTIONS).all(|k| action_number(actions, q, k) == action_number(actions, p, k))
 }

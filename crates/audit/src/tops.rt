@@ -1,22 +1,21 @@
 // The top of a term: how many variables it asks to be bound, one more than its highest variable at any depth, and 0
 // where it has none. Kept for each label, so that no term is walked twice: parts are earlier, so their tops are there
 // when they are asked for.
+#![tactic(auto, unfolding(crate::specs::Tops::top_of, crate::specs::Tops::past_of, crate::specs::Tops::top_at))]
+
 ghost use Rattle.std.specs.Prelude.{◌≡◌};
 ghost use Rattle.audit.specs.Tops.{tops_of, top_of, past_of, top_at};
 
-use terms::line::{line_at, term_in};
-use terms::term::{Shape, Term, larger, shape_of};
+use terms::line::term_in;
+use terms::term::{Shape, Term, shape_of};
 
 // Of all labels of a table, in one pass.
 pub fn tops(t: &[u64; 512]) -> [u8; 512]
     ensures { result ≡ tops_of t.now }
 {
     let mut out = [0u8; 512];
-    let mut i = 0;
-    while i < 512 {
-        let x = term_in(line_at(t, i as u16));
-        out[i] = top_of(&out, x);
-        i += 1;
+    for (i, n) in t.iter().enumerate() {
+        out[i] = top_of(&out, term_in(*n));
     }
     out
 }
@@ -25,16 +24,12 @@ pub fn tops(t: &[u64; 512]) -> [u8; 512]
 pub fn top_of(known: &[u8; 512], x: Term) -> u8
     ensures { result ≡ top_of known.now x }
 {
-    let s = shape_of(x.kind);
-    match s {
-        Shape::Bare => 0,
-        Shape::Number => 0,
+    match shape_of(x.kind) {
+        Shape::Bare | Shape::Number | Shape::Unknown => 0,
         Shape::Variable => past(x.a),
-        Shape::Sealed => top_at(known, x.a),
-        Shape::Hashed => top_at(known, x.a),
+        Shape::Sealed | Shape::Hashed => top_at(known, x.a),
         Shape::Applied => top_at(known, x.b),
-        Shape::Joined => larger(top_at(known, x.a), top_at(known, x.b)),
-        Shape::Unknown => 0,
+        Shape::Joined => top_at(known, x.a).max(top_at(known, x.b)),
     }
 }
 
@@ -49,6 +44,5 @@ fn past(a: u16) -> u8
 pub fn top_at(known: &[u8; 512], label: u16) -> u8
     ensures { result ≡ top_at known.now label }
 {
-    let i = label as usize;
-    if i < 512 { known[i] } else { 0 }
+    known.get(usize::from(label)).copied().unwrap_or(0)
 }

@@ -8,7 +8,7 @@ use lib.ListN.{length, get_or, replicate}
 use Rattle.terms.specs.Term.{term}
 use Rattle.terms.specs.Table.{fresh_table}
 use Rattle.terms.specs.Tree.{leaf, sinit, seq}
-use Rattle.terms.specs.declared.table.Outcome.TheVariants.{Listed, New}
+use Rattle.terms.specs.Outcome.{Listed, New}
 use Rattle.audit.specs.Models.{sound_model}
 use Rattle.audit.proofs.Bare.{bare_sound}
 use Rattle.walk.specs.Trail.{trails, bad_in, sized_in}

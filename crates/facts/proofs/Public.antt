@@ -13,7 +13,7 @@ use Rattle.terms.specs.Table.{fresh_table}
 use Rattle.terms.specs.Sound.{fixed_first, line_sound, all_zero, sound_test}
 use Rattle.state.specs.Control.{fresh_control}
 use Rattle.state.specs.declared.control.Control.{Control}
-use Rattle.rules.specs.declared.inner.Stepped.{Stepped}
+use Rattle.rules.specs.Reply.{Stepped}
 use Rattle.model.specs.Records.{action_number}
 use Rattle.terms.specs.Each.{all_from}
 use Rattle.audit.specs.Tops.{past_of, top_at, top_of, tops_from, tops_of}

@@ -6,13 +6,11 @@ use Rattle.terms.specs.Table.{added, fresh_table, add_to}
 use Rattle.terms.specs.Tree.{Tree}
 use Rattle.terms.specs.Meaning.{tree_of}
 use Rattle.terms.specs.declared.term.Term.{Term}
-use Rattle.terms.specs.declared.table.Added.{Added}
-use Rattle.terms.specs.declared.table.Outcome.{Outcome}
-use Rattle.terms.specs.declared.table.Outcome.TheVariants.{New}
+use Rattle.terms.specs.Outcome.{Added, Outcome, New}
 use Rattle.model.specs.declared.records.Model.{Model}
 use Rattle.state.specs.Control.{fresh_control}
 use Rattle.state.specs.declared.control.Control.{Control}
-use Rattle.rules.specs.declared.inner.Stepped.{Stepped}
+use Rattle.rules.specs.Reply.{Stepped}
 use Rattle.law.specs.Turned.{turned_by}
 use Rattle.machine.specs.Step.{step_checked}
 use Rattle.walk.specs.Gathers.{Gathers}

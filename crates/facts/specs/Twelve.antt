@@ -3,7 +3,7 @@
 use Rattle.std.specs.Prelude.{[], ◌∷◌, ◌++◌, ◌≡◌, replicate}
 use Rattle.terms.specs.Term.{term}
 use Rattle.terms.specs.Tree.{leaf, sinit, seq}
-use Rattle.terms.specs.declared.table.Outcome.TheVariants.{Listed, New}
+use Rattle.terms.specs.Outcome.{Listed, New}
 use Rattle.facts.specs.Models.{bare, extends, unlocks, hashes, chains}
 use Rattle.facts.specs.Said.{answers_to, outcomes, meaning, Lists}
 

@@ -24,8 +24,7 @@ use Rattle.terms.proofs.Substs.{means_sealed, means_applied, means_joined}
 use Rattle.model.specs.declared.records.Action.{Action}
 use Rattle.rules.specs.Want.{sealed_by, opened_by, first_half, second_half, matched_of, code_needed, want_of}
 use Rattle.rules.specs.Work.{given_at}
-use Rattle.rules.specs.declared.want.Want.{Want}
-use Rattle.rules.specs.declared.want.Want.TheVariants.{Refuse, Keep, Make}
+use Rattle.rules.specs.Asked.{Want, Refuse, Keep, Make}
 use Rattle.law.specs.Out.{Out, ok, refuse}
 use Rattle.law.specs.Act.{num_of, first_of, second_of, sealing, opening, needs, is_a, result}
 use Rattle.law.proofs.Denote.{pair_shape, den_kind, den_number, den_key, den_inside, den_first, den_second, den_same}

@@ -28,18 +28,18 @@ use Rattle.state.specs.declared.control.Control.{Control}
 use Rattle.rules.specs.Effect.{place_of}
 use Rattle.rules.specs.Work.{labels, try_action, work_tried, work_advance, work_by, work_on}
 use Rattle.rules.specs.Happened.{happened_on}
-use Rattle.rules.specs.Made.{Config, config_of, made_on, control_after}
+use Rattle.rules.specs.Made.{Config, config_of, made_on, control_after, layout_of}
 use Rattle.rules.specs.Step.{go_worked, go_on, refused_step, step_on}
-use Rattle.rules.specs.declared.inner.Stepped.{Stepped}
+use Rattle.rules.specs.Reply.{Stepped}
 use Rattle.rules.specs.declared.work.Labels.{Labels}
-use Rattle.rules.specs.declared.work.Tried.{Tried}
-use Rattle.rules.specs.declared.work.Worked.{Worked}
-use Rattle.rules.specs.declared.work.Worked.TheVariants as K
+use Rattle.rules.specs.Out.{Tried}
+use Rattle.rules.specs.Worked.{Worked}
+use Rattle.rules.specs.Worked as K
 use Rattle.rules.proofs.Alike.{Alike, made_alike}
 use Rattle.rules.proofs.Back.{work_back}
 use Rattle.law.specs.Out.{Out, ok, refuse, and_then}
 use Rattle.law.specs.Act.{program_of}
-use Rattle.law.specs.Rules.{State, Acted, acted, Made, layout_of, operand, acts, action_of, made, go_by, step_r}
+use Rattle.law.specs.Rules.{State, Acted, acted, Made, operand, acts, action_of, made, go_by, step_r}
 use Rattle.law.specs.Meant.{bare}
 use Rattle.law.specs.Like.{Leaves, at, Named, Like, LikeMade, Exactly, both, neither, Fine}
 use Rattle.law.proofs.Tries.{Tries, refused, done, tries}

@@ -26,11 +26,10 @@ use Rattle.state.specs.declared.control.Control.{Control}
 use Rattle.state.proofs.Live.{free_there}
 use Rattle.state.proofs.Frame.{live_place, slot_there, moved_keeps, jumped_keeps, launched_keeps, handed_keeps, reset_keeps, reset_finds}
 use Rattle.rules.specs.Effect.{bound_by, bound}
-use Rattle.rules.specs.Made.{Config, jumped_on, acted_on, launched_on, reset_on, handed_on, advanced_on, config_of, control}
+use Rattle.rules.specs.Made.{Config, jumped_on, acted_on, launched_on, reset_on, handed_on, advanced_on, config_of, control, layout_of}
 use Rattle.audit.specs.Sound.{SoundModel, FitAction}
 use Rattle.audit.specs.Whole.{Arrays, SoundTerms, Stored, SoundVars, SoundConfig}
 use Rattle.audit.proofs.Whole.{sound_grounds}
-use Rattle.law.specs.Rules.{layout_of}
 use Rattle.law.proofs.KeptFresh.{start_packed}
 use Rattle.law.proofs.KeptWant.{stored_none}
 use Rattle.law.proofs.KeptWork.{next_fit}

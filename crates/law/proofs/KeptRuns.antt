@@ -14,14 +14,14 @@ use Rattle.state.specs.Control.{fresh_control}
 use Rattle.state.specs.declared.control.Control.{Control}
 use Rattle.state.proofs.Frame.{reset_finds}
 use Rattle.rules.specs.Step.{step_on}
-use Rattle.rules.specs.declared.inner.Stepped.{Stepped}
+use Rattle.rules.specs.Reply.{Stepped}
 use Rattle.audit.specs.Models.{sound_model}
 use Rattle.audit.specs.Sound.{SoundModel}
 use Rattle.audit.specs.Configuration.{sound_control}
 use Rattle.audit.specs.Whole.{Arrays, Lengths, SoundConfig}
 use Rattle.audit.proofs.Check.{test_model}
 use Rattle.audit.proofs.Whole.{sound_grounds, test_control, control_test}
-use Rattle.law.specs.Rules.{layout_of}
+use Rattle.rules.specs.Made.{layout_of}
 use Rattle.law.specs.Runs.{run_labels, step_from, LeavesSound, LeavesPassing}
 use Rattle.law.proofs.KeptFresh.{fresh_passes}
 use Rattle.law.proofs.KeptStep.{step_sound}

@@ -19,17 +19,15 @@ use Rattle.state.specs.declared.control.Control.{Control}
 use Rattle.state.proofs.Turned.{LetAdvance, LetHand, LetReset, let_advance, let_hand, let_reset, early_way}
 use Rattle.rules.specs.Effect.{place_of}
 use Rattle.rules.specs.Work.{labels, no_labels, work_advance, work_by, work_on}
-use Rattle.rules.specs.Made.{made_on, control_after}
+use Rattle.rules.specs.Made.{made_on, control_after, layout_of}
 use Rattle.rules.specs.Step.{stepped, refused_step, go_worked, go_on, step_on}
-use Rattle.rules.specs.declared.work.Worked.{Worked}
+use Rattle.rules.specs.Worked.{Worked}
 use Rattle.rules.specs.declared.event.Happening.{Happening}
-use Rattle.rules.specs.declared.inner.Reply.{Reply}
-use Rattle.rules.specs.declared.inner.Reply.TheVariants as R
-use Rattle.rules.specs.declared.inner.Stepped.{Stepped}
+use Rattle.rules.specs.Reply.{Reply, Stepped}
+use Rattle.rules.specs.Reply as R
 use Rattle.rules.proofs.Back.{StepKept, step_kept}
 use Rattle.audit.specs.Sound.{SoundModel}
 use Rattle.audit.specs.Whole.{Arrays, SoundConfig}
-use Rattle.law.specs.Rules.{layout_of}
 use Rattle.law.proofs.KeptWork.{next_fit, WorkFine, action_work}
 use Rattle.law.proofs.KeptMade.{live_sound, nonce_same, advanced_sound, handed_sound, reset_sound}
 

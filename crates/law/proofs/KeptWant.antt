@@ -22,8 +22,7 @@ use Rattle.terms.proofs.Meaning.{also_left, also_right, also_both, tree_at, part
 use Rattle.terms.proofs.Growth.{tree_grows, den_nought}
 use Rattle.model.specs.declared.records.Action.{Action}
 use Rattle.rules.specs.Want.{operands_given, sealed_by, opened_by, first_half, second_half, matched_of, code_needed, want_of}
-use Rattle.rules.specs.declared.want.Want.{Want}
-use Rattle.rules.specs.declared.want.Want.TheVariants.{Refuse, Keep, Make}
+use Rattle.rules.specs.Asked.{Want, Refuse, Keep, Make}
 use Rattle.rules.specs.declared.want.Given.{Given}
 use Rattle.audit.specs.Whole.{Stored}
 use Rattle.law.specs.Like.{Leaves, at, in_sealed, in_applied, in_joined}

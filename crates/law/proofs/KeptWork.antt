@@ -16,8 +16,8 @@ use Rattle.terms.specs.Meaning.{trees, tree_of, means, Den}
 use Rattle.terms.specs.Sound.{Sound}
 use Rattle.terms.specs.Promise.{Grows, Each, none, one, Adds, Takes}
 use Rattle.terms.specs.declared.term.Term.{Term}
-use Rattle.terms.specs.declared.table.Added.{Added}
-use Rattle.terms.specs.declared.subst.Operands.{Operands}
+use Rattle.terms.specs.Outcome.{Added}
+use Rattle.terms.specs.Taken.{Operands}
 use Rattle.terms.proofs.Labels.{den_at}
 use Rattle.terms.proofs.Growth.{term_grows, grows_then}
 use Rattle.terms.proofs.Add.{adds}
@@ -33,10 +33,9 @@ use Rattle.state.specs.FrameSound.{ThreadSound}
 use Rattle.state.specs.declared.slot.Slot.{Slot}
 use Rattle.state.specs.declared.control.Control.{Control}
 use Rattle.rules.specs.Work.{labels, refused_by, labelled_by, as_result, meet_new, meet_want, given_at, try_taken, try_action, code_at, work_tried}
-use Rattle.rules.specs.declared.want.Want.{Want}
-use Rattle.rules.specs.declared.work.Worked.{Worked}
-use Rattle.rules.specs.declared.work.Worked.TheVariants.{Refused, Done}
-use Rattle.rules.specs.declared.work.Tried.{Tried}
+use Rattle.rules.specs.Asked.{Want}
+use Rattle.rules.specs.Worked.{Worked, Refused, Done}
+use Rattle.rules.specs.Out.{Tried}
 use Rattle.audit.specs.Sound.{SoundModel, FitAction}
 use Rattle.audit.specs.Configuration.{is_bound}
 use Rattle.audit.specs.Whole.{SoundTerms, Stored, SoundValues, VarSound, SoundVars, SoundConfig}

@@ -14,11 +14,12 @@ use Rattle.state.specs.Control.{fresh_control}
 use Rattle.state.specs.declared.control.Control.{Control}
 use Rattle.rules.specs.Step.{step_on}
 use Rattle.rules.specs.declared.event.Happening.{Happening}
-use Rattle.rules.specs.declared.inner.Stepped.{Stepped}
+use Rattle.rules.specs.Reply.{Stepped}
 use Rattle.audit.specs.Sound.{SoundModel}
 use Rattle.audit.specs.Configuration.{sound_control}
 use Rattle.law.specs.Out.{Out, ok}
-use Rattle.law.specs.Rules.{State, Made, layout_of, fresh_state, step_r}
+use Rattle.rules.specs.Made.{layout_of}
+use Rattle.law.specs.Rules.{State, Made, fresh_state, step_r}
 use Rattle.law.specs.Runs.{state_after, run_rules, run_labels}
 use Rattle.law.specs.Meant.{Sized, meant, deed_in, bare, meant_made, answer}
 use Rattle.law.specs.Like.{Like, LikeMade, Exactly, both, neither, Near, Fine}

@@ -16,10 +16,11 @@ use Rattle.state.specs.declared.code.Way.{Way}
 use Rattle.state.specs.declared.code.Way.TheVariants as W
 use Rattle.state.specs.declared.control.Control.{Control}
 use Rattle.rules.specs.Step.{refused_step, step_on}
-use Rattle.rules.specs.declared.inner.Stepped.{Stepped}
+use Rattle.rules.specs.Reply.{Stepped}
 use Rattle.law.specs.Out.{Out, ok, refuse, and_then}
 use Rattle.law.specs.Size.{fits}
-use Rattle.law.specs.Rules.{State, Made, layout_of, acts, action_of, go_by, step_r}
+use Rattle.rules.specs.Made.{layout_of}
+use Rattle.law.specs.Rules.{State, Made, acts, action_of, go_by, step_r}
 use Rattle.law.specs.Like.{Like, Exactly, Follows, Near, same, too_deep_lem, too_many, Fine}
 use Rattle.law.proofs.Exact.{steps_exactly}
 

@@ -15,7 +15,7 @@ use Rattle.model.specs.Fields.{either}
 use Rattle.model.specs.declared.records.Model.{Model}
 use Rattle.state.specs.declared.control.Control.{Control}
 use Rattle.rules.specs.declared.event.Happening.{Happening}
-use Rattle.rules.specs.declared.inner.Stepped.{Stepped}
+use Rattle.rules.specs.Reply.{Stepped}
 use Rattle.audit.specs.Sound.{SoundModel}
 use Rattle.law.specs.Out.{Out}
 use Rattle.law.specs.Rules.{Made}

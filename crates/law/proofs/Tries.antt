@@ -13,8 +13,8 @@ use Rattle.terms.specs.Tree.{Tree, deepness, subst_t, member, with, enter}
 use Rattle.terms.specs.Meaning.{trees, means, Den}
 use Rattle.terms.specs.Promise.{Fit, Grows, Each, Adds, deep, listed, new, full, Takes}
 use Rattle.terms.specs.declared.term.Term.{Term}
-use Rattle.terms.specs.declared.table.Added.{Added}
-use Rattle.terms.specs.declared.subst.Operands.{Operands}
+use Rattle.terms.specs.Outcome.{Added}
+use Rattle.terms.specs.Taken.{Operands}
 use Rattle.terms.proofs.Meaning.{length_trees}
 use Rattle.terms.proofs.Growth.{den_grows, grows_then}
 use Rattle.terms.proofs.Add.{adds}
@@ -23,8 +23,8 @@ use Rattle.terms.proofs.Depth.{den_enters}
 use Rattle.terms.proofs.Substs.{takes_den, den_shallow}
 use Rattle.model.specs.declared.records.Action.{Action}
 use Rattle.rules.specs.Work.{refused_by, labelled_by, as_result, meet_new, meet_want, try_taken, try_action}
-use Rattle.rules.specs.declared.want.Want.{Want}
-use Rattle.rules.specs.declared.work.Tried.{Tried}
+use Rattle.rules.specs.Asked.{Want}
+use Rattle.rules.specs.Out.{Tried}
 use Rattle.law.specs.Out.{Out, ok, refuse, and_then}
 use Rattle.law.specs.Size.{fits, fits_both, fits_one}
 use Rattle.law.specs.Act.{result}

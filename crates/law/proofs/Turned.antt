@@ -24,13 +24,14 @@ use Rattle.state.specs.declared.code.Way.TheVariants as W
 use Rattle.state.specs.declared.control.Control.{Control}
 use Rattle.state.proofs.Turned.{positive, first_iff, none_iff}
 use Rattle.rules.specs.Step.{step_on}
-use Rattle.rules.specs.declared.inner.Stepped.{Stepped}
+use Rattle.rules.specs.Reply.{Stepped}
 use Rattle.audit.specs.Sound.{SoundModel}
 use Rattle.audit.specs.Configuration.{sound_control}
 use Rattle.law.specs.Out.{Out, ok, refuse, and_then}
 use Rattle.law.specs.Size.{fits, fits_one}
 use Rattle.law.specs.Act.{num_of, first_of as part_of, is_a, needs, result}
-use Rattle.law.specs.Rules.{State, Acted, acted, Made, layout_of, operand, acts, action_of, go_by, step_r}
+use Rattle.rules.specs.Made.{layout_of}
+use Rattle.law.specs.Rules.{State, Acted, acted, Made, operand, acts, action_of, go_by, step_r}
 use Rattle.law.specs.Like.{Exactly, both, neither}
 use Rattle.law.specs.Meant.{Sized, meant}
 use Rattle.law.specs.Turned.{refusal_in, turned_by, too_deep, too_many, unfit, yielded, act_reasons, work_reasons, step_reasons}

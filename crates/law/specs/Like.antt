@@ -13,8 +13,7 @@ use Rattle.model.specs.declared.records.Model.{Model}
 use Rattle.state.specs.declared.control.Control.{Control}
 use Rattle.rules.specs.Step.{stepped, refused_step}
 use Rattle.rules.specs.declared.event.Happening.{Happening}
-use Rattle.rules.specs.declared.inner.Reply.TheVariants.{Permitted}
-use Rattle.rules.specs.declared.inner.Stepped.{Stepped}
+use Rattle.rules.specs.Reply.{Permitted, Stepped}
 use Rattle.law.specs.Out.{Out, ok, refuse}
 use Rattle.law.specs.Rules.{State, Made}
 use Rattle.law.specs.Meant.{deed_in, bare}

@@ -9,11 +9,10 @@ use Rattle.state.specs.Control.{fresh_control}
 use Rattle.state.specs.declared.control.Control.{Control}
 use Rattle.rules.specs.Step.{step_on}
 use Rattle.rules.specs.declared.event.Happening.{Happening}
-use Rattle.rules.specs.declared.inner.Reply.{Reply}
-use Rattle.rules.specs.declared.inner.Reply.TheVariants.{Refused, Permitted}
-use Rattle.rules.specs.declared.inner.Stepped.{Stepped}
+use Rattle.rules.specs.Reply.{Reply, Refused, Permitted, Stepped}
 use Rattle.law.specs.Out.{Out, ok, refuse}
-use Rattle.law.specs.Rules.{State, Made, layout_of, fresh_state, step_r}
+use Rattle.rules.specs.Made.{layout_of}
+use Rattle.law.specs.Rules.{State, Made, fresh_state, step_r}
 use Rattle.law.specs.Meant.{bare}
 use Rattle.law.specs.Like.{Like}
 

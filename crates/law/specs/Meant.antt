@@ -10,9 +10,7 @@ use Rattle.rules.specs.declared.event.Deed.{Deed}
 use Rattle.rules.specs.declared.event.Event.{Event}
 use Rattle.rules.specs.declared.event.Event.TheVariants.{Jump, Launch, Reset, HandOver, Action}
 use Rattle.rules.specs.declared.event.Happening.{Happening}
-use Rattle.rules.specs.declared.inner.Reply.{Reply}
-use Rattle.rules.specs.declared.inner.Reply.TheVariants.{Refused, Permitted}
-use Rattle.rules.specs.declared.inner.Stepped.{Stepped}
+use Rattle.rules.specs.Reply.{Reply, Refused, Permitted, Stepped}
 use Rattle.law.specs.Out.{Out, ok, refuse}
 use Rattle.law.specs.Rules.{State, Made}
 

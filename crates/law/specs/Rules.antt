@@ -15,7 +15,7 @@ use Rattle.state.specs.declared.code.Way.TheVariants as W
 use Rattle.rules.specs.Effect.{place_of}
 use Rattle.rules.specs.Work.{labels}
 use Rattle.rules.specs.Happened.{happened_on}
-use Rattle.rules.specs.Made.{Layout, layout, Config, made_on}
+use Rattle.rules.specs.Made.{Layout, layout_of, Config, made_on}
 use Rattle.rules.specs.declared.event.Happening.{Happening}
 use Rattle.law.specs.Out.{Out, ok, refuse, and_then}
 use Rattle.law.specs.Size.{fits_both, fits_one}
@@ -42,9 +42,6 @@ pub record Made : Type 0 where
   pub x : Tree
   pub y : Tree
   pub result : Tree
-
-abbrev pub layout_of : Model → Layout
-layout_of m = layout m.actions m.lengths m.machines m.locations
 
 -- "Every schedule runs from the model's fresh configuration, its table the fixed and listed terms alone"
 unfoldable pub fresh_state : Model → State

@@ -5,11 +5,12 @@ use Rattle.terms.specs.Base.{Held}
 use Rattle.model.specs.declared.records.Model.{Model}
 use Rattle.state.specs.declared.control.Control.{Control}
 use Rattle.rules.specs.Step.{step_on}
-use Rattle.rules.specs.declared.inner.Stepped.{Stepped}
+use Rattle.rules.specs.Reply.{Stepped}
 use Rattle.audit.specs.Configuration.{sound_control}
 use Rattle.audit.specs.Whole.{SoundConfig}
 use Rattle.law.specs.Out.{Out, ok, refuse}
-use Rattle.law.specs.Rules.{State, Made, layout_of, step_r}
+use Rattle.rules.specs.Made.{layout_of}
+use Rattle.law.specs.Rules.{State, Made, step_r}
 
 abbrev pub state_after : Out Made → State → State
 state_after (ok r) d = r.state

@@ -11,9 +11,7 @@ use Rattle.state.specs.Control.{value_at}
 use Rattle.state.specs.Early.{sight_of, reasons}
 use Rattle.state.specs.declared.code.Way.{Way}
 use Rattle.state.specs.declared.code.Way.TheVariants as W
-use Rattle.rules.specs.declared.inner.Reply.{Reply}
-use Rattle.rules.specs.declared.inner.Reply.TheVariants.{Refused, Permitted}
-use Rattle.rules.specs.declared.inner.Stepped.{Stepped}
+use Rattle.rules.specs.Reply.{Reply, Refused, Permitted, Stepped}
 use Rattle.law.specs.Out.{Out, ok, refuse}
 use Rattle.law.specs.Act.{result}
 use Rattle.law.specs.Rules.{State, operand, action_of}

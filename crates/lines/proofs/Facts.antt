@@ -4,14 +4,13 @@ use mathlib.Core.List.{List, [], ◌∷◌, ◌++◌}
 use mathlib.Core.Path.{◌≡◌, refl}
 use Rattle.lines.specs.Base.{refusal}
 use Rattle.lines.specs.Line.{span, no_lf, cut_line, lines_of, joined}
+use Rattle.lines.specs.Field as F
 use Rattle.lines.specs.Field.{is_digit, well_spelt, number_from, number_of, field_of, opens_with}
 use Rattle.lines.specs.Tail.{all_open, before_run}
-use Rattle.lines.specs.Goal.{budget_of, pair_of, goal_line, last_goal, goal_refusal}
+use Rattle.lines.specs.Goal.{goal, budget_of, pair_of, goal_line, last_goal, goal_refusal}
 use Rattle.lines.specs.Codes.{code_in, next_code, judge_from, last_codes, codes_refusal}
 use Rattle.lines.specs.Put.{word_of, digit_of, decimal_in, decimal, blank_and, refused_line}
-use Rattle.lines.specs.declared.field.Field.TheVariants as F
-use Rattle.lines.specs.declared.goal.Goal.TheVariants as G
-use Rattle.lines.specs.declared.codes.Codes.TheVariants as K
+use Rattle.std.specs.Prelude.{Ok}
 
 -- "V 1", and "G 3 1000"
 v1 : List ℕ
@@ -21,7 +20,7 @@ g3 : List ℕ
 g3 = 71 ∷ 9 ∷ 51 ∷ 9 ∷ 49 ∷ 48 ∷ 48 ∷ 48 ∷ 10 ∷ []
 
 -- "`G 3 1000` (bound, budget)": the model is the 4 bytes before it
-last_line_g : last_goal (v1 ++ g3) ≡ G.Good 4 3 1000
+last_line_g : last_goal (v1 ++ g3) ≡ Ok (goal 4 3 1000)
 unfolding v1 g3 last_goal lines_of joined goal_line cut_line span no_lf opens_with pair_of budget_of field_of is_digit well_spelt number_of number_from
 last_line_g = refl
 
@@ -48,7 +47,7 @@ r65536 : List ℕ
 r65536 = 82 ∷ 9 ∷ 54 ∷ 53 ∷ 53 ∷ 51 ∷ 54 ∷ 10 ∷ []
 
 -- "all R lines at the end" are taken off, and no R line before another line
-run_of_two : last_codes (r12 ++ (v1 ++ (r160 ++ r12))) ≡ K.Good 9
+run_of_two : last_codes (r12 ++ (v1 ++ (r160 ++ r12))) ≡ Ok 9
 unfolding v1 r160 r12 last_codes lines_of joined all_open before_run judge_from next_code cut_line code_in span no_lf opens_with field_of is_digit well_spelt number_of number_from
 run_of_two = refl
 

@@ -1,35 +1,22 @@
 -- The laws that the proofs of the functions share: what a test tells a definition, one turn of each loop, one step
 -- down of a recursion.
-use Prim.Native.Nat.{ℕ, suc, ◌+◌, ◌*◌, ◌-◌, ◌%◌, ◌<◌, ◌≤◌}
+use Prim.Native.Nat.{ℕ, suc, ◌+◌, ◌*◌, ◌-◌, ◌<◌, ◌≤◌}
 use mathlib.Core.Bool.{Bool, true, false, not}
 use mathlib.Core.List.{List, [], ◌∷◌}
-use mathlib.Core.Path.{◌≡◌, refl, ◌∙◌}
-use native.Mathlib.Numerals.{add-one}
+use mathlib.Core.Path.{◌≡◌, refl, sym, ◌∙◌}
 use native.Mathlib.Omega.{arith}
-use lib.ListN.{length, get_or, take, drop, drop_of_length-le}
-use lib.Seq.{drop-cons}
+use lib.ListN.{length, get_or, take, drop}
 use lib.Dec.{ltb, eqb}
-use borrow.Author.Tests.{ltb-true, ltb-false, lt-ltb, le-ltb, eq-eqb, ne_eqb}
-use Rattle.lines.specs.Base.{pick}
+use borrow.Author.Tests.{ltb-true, ltb-false, lt-ltb, le-ltb, eq-eqb, ne_eqb, le-leb, lt-leb, eqb-true, eqb-false}
+use Rattle.std.specs.Prelude.{Option, Some, None, Result, Ok, Err, OkIff, cond, ◌&&◌, min, leb, position, take_while, fold}
+use Rattle.std.specs.Result.{result_ok}
+use Rattle.std.specs.List.{prefix_len, starts_with}
+use Rattle.std.specs.Char.{is_ascii_digit}
+use Rattle.std.proofs.lemmas.List.Folds.{length-prefix_len}
+use Rattle.lines.specs.Base.{pick, also}
 use Rattle.lines.specs.Line.{span, no_lf, cut_line}
-use Rattle.lines.specs.Field.{is_digit, well_spelt, number_from, number_of, capped, end_by, field_of, opens_with}
-use Rattle.lines.specs.declared.field.Cut.TheVariants.{Line, Open}
-use Rattle.lines.specs.declared.field.Field.{Field}
-use Rattle.lines.specs.declared.field.Field.TheVariants.{More, Last, Bad}
-
--- span: one byte
-module _ (p : ℕ → Bool) (s : List ℕ) (i : ℕ) where
-  pub span_more : i < length s → p (get_or s i 0) ≡ true → i + span p (drop i s) ≡ (i + 1) + span p (drop (i + 1) s)
-  unfolding span
-  span_more h e = rw (add-one i, drop-cons s i 0 h, e) (omega arith)
-
-  pub span_stop : i < length s → p (get_or s i 0) ≡ false → i + span p (drop i s) ≡ i
-  unfolding span
-  span_stop h e = rw (drop-cons s i 0 h, e) (omega arith)
-
-  pub span_end : length s ≤ i → i + span p (drop i s) ≡ i
-  unfolding span
-  span_end h = rw (drop_of_length-le s h) (omega arith)
+use Rattle.lines.specs.declared.field.Field as code
+use Rattle.lines.specs.Field.{Field, field_by_next, More, Last, Bad, is_digit, well_spelt, number_from, number_of, capped, end_by, field_of, opens_with}
 
 span_by : (b : Bool) (m n : ℕ) → m ≤ n → pick b (m + 1) 0 ≤ suc n
 span_by true m n h = omega arith
@@ -40,28 +27,43 @@ unfolding span
 span_le p [] = omega arith
 span_le p (b ∷ s) = span_by (p b) (span p s) (length s) (span_le p s)
 
--- cut_line: the LF is at i, or there is none
-pub cut_hit : (s : List ℕ) (i : ℕ) → span no_lf s ≡ i + span no_lf (drop i s) → i < length s → get_or s i 0 ≡ 10 → cut_line s ≡ Line i
+-- ---- std's words for these definitions
+
+if_pick : {A : Type 0} (t : Bool) (a b : A) → cond t a b ≡ pick t a b
+if_pick true a b = refl
+if_pick false a b = refl
+
+prefix_by : (t : Bool) (m n : ℕ) → m ≡ n → cond t (1 + m) 0 ≡ pick t (n + 1) 0
+prefix_by true m n e = omega arith
+prefix_by false m n e = refl
+
+-- what `take_while` and `position` pass
+pub prefix_span : (p : ℕ → Bool) (s : List ℕ) → prefix_len p s ≡ span p s
+unfolding span
+prefix_span p [] = refl
+prefix_span p (b ∷ s) = prefix_by (p b) (prefix_len p s) (span p s) (prefix_span p s)
+
+pub position_cut : (s : List ℕ) → position (λ b. eqb b 10) s ≡ cut_line s
 unfolding cut_line no_lf
-cut_hit s i e h f = let g : span no_lf s ≡ i = e ∙ span_stop no_lf s i h (rw (eq-eqb _ _ f)) in rw (g, lt-ltb _ _ h)
+position_cut s =
+    let e : prefix_len no_lf s ≡ span no_lf s = prefix_span no_lf s in
+    rw e (if_pick (ltb (span no_lf s) (length s)) (Some (span no_lf s)) None)
 
-pub cut_miss : (s : List ℕ) (i : ℕ) → i < length s → (get_or s i 0 ≡ 10 → ⊥) → i + span no_lf (drop i s) ≡ (i + 1) + span no_lf (drop (i + 1) s)
-unfolding no_lf
-cut_miss s i h f = span_more no_lf s i h (rw (ne_eqb _ _ f))
+digit_by : (t u : Bool) (b : ℕ) → ltb b 48 ≡ t → leb b 57 ≡ u → is_ascii_digit b ≡ is_digit b
+unfolding is_digit
+digit_by true u b e f = rw e (let h : b < 48 = ltb-true b 48 e in rw (lt-leb 48 b h))
+digit_by false u b e f = let h : 48 ≤ b = ltb-false b 48 e in rw (e, le-leb 48 b h)
 
-pub cut_end : (s : List ℕ) (i : ℕ) → span no_lf s ≡ i + span no_lf (drop i s) → length s ≤ i → cut_line s ≡ Open
-unfolding cut_line
-cut_end s i e h = let g : span no_lf s ≡ i = e ∙ span_end no_lf s i h in rw (g, le-ltb _ _ h)
+pub ascii_digit : (b : ℕ) → is_ascii_digit b ≡ is_digit b
+ascii_digit b = digit_by (ltb b 48) (leb b 57) b refl refl
+
+pub digits_span : (s : List ℕ) → length (take_while is_ascii_digit s) ≡ span is_digit s
+digits_span s = length-prefix_len is_ascii_digit s ∙ same s ∙ prefix_span is_digit s where
+  same : (s : List ℕ) → prefix_len is_ascii_digit s ≡ prefix_len is_digit s
+  same [] = refl
+  same (b ∷ s) = rw (ascii_digit b, same s)
 
 -- numbers with a cap
-cap_by : (b : Bool) (n : ℕ) → ltb 4294967295 n ≡ b → capped (capped n) ≡ capped n
-unfolding capped
-cap_by true n e = rw e
-cap_by false n e = rw (e, e)
-
-pub cap_cap : (n : ℕ) → capped (capped n) ≡ capped n
-cap_cap n = cap_by (ltb 4294967295 n) n refl
-
 pub cap_over : (n : ℕ) → 4294967295 < n → capped n ≡ 4294967296
 unfolding capped
 cap_over n h = rw (lt-ltb _ _ h)
@@ -70,52 +72,31 @@ pub cap_under : (n : ℕ) → n ≤ 4294967295 → capped n ≡ n
 unfolding capped
 cap_under n h = rw (le-ltb _ _ h)
 
-from_le : (v : ℕ) (ds : List ℕ) → v ≤ number_from v ds
+-- the digits one by one
+pub capped_min : (n : ℕ) → capped n ≡ min n 4294967296
+capped_min n = by (ltb 4294967295 n) refl where
+  by : (t : Bool) → ltb 4294967295 n ≡ t → capped n ≡ min n 4294967296
+  by true e = let h : 4294967295 < n = ltb-true _ _ e in omega (arith, cap_over n h)
+  by false e = let h : n ≤ 4294967295 = ltb-false _ _ e in omega (arith, cap_under n h)
+
+longer_cap : (v k : ℕ) → capped (capped v * 10 + k) ≡ capped (v * 10 + k)
+longer_cap v k = omega (arith, capped_min v, capped_min (v * 10 + k), capped_min (capped v * 10 + k))
+
+pub value_fold : (v : ℕ) (ds : List ℕ) → fold (λ n d. capped (n * 10 + (d - 48))) (capped v) ds ≡ capped (number_from v ds)
 unfolding number_from
-from_le v [] = omega arith
-from_le v (d ∷ ds) = let h = from_le (v * 10 + (d - 48)) ds in omega arith
+value_fold v [] = refl
+value_fold v (d ∷ ds) = rw (longer_cap v (d - 48)) (value_fold (v * 10 + (d - 48)) ds)
 
-from_by : (b : Bool) (v : ℕ) (ds : List ℕ) → ltb 4294967295 v ≡ b → capped (number_from v ds) ≡ capped (number_from (capped v) ds)
-from_by true v ds e =
-    let h : 4294967295 < v = ltb-true _ _ e in
-    let k : 4294967295 < number_from v ds = omega (arith, from_le v ds) in
-    let l : 4294967295 < number_from 4294967296 ds = omega (arith, from_le 4294967296 ds) in
-    rw (cap_over v h, cap_over _ k, cap_over _ l)
-from_by false v ds e = rw (cap_under v (ltb-false _ _ e))
+-- a number of 32 bits, or none
+pub fits_some : {E : Type 0} (r : Result ℕ E) (n v : ℕ) → OkIff r (capped n < 4294967296) (capped n) → Some v ≡ result_ok r → v ≡ n
+fits_some (Ok x) n v h e = let q : v ≡ x = cc in let f : x ≡ capped n = h.1 in let g : capped n < 4294967296 = h.0 in omega (arith, capped_min n)
+fits_some (Err d) n v h e = absurd (let z : ◌≡◌ {A = ℕ} 0 1 = cc in omega arith)
 
--- value: one digit
-pub value_more : (v : ℕ) (ds : List ℕ) (i : ℕ) → i < length ds
-    → capped (number_from v (drop i ds)) ≡ capped (number_from (capped (v * 10 + (get_or ds i 0 - 48))) (drop (i + 1) ds))
-unfolding number_from
-value_more v ds i h = rw (drop-cons ds i 0 h, add-one) (from_by (ltb 4294967295 (v * 10 + (get_or ds i 0 - 48))) (v * 10 + (get_or ds i 0 - 48)) (drop (suc i) ds) refl)
+pub fits_none : {E : Type 0} (r : Result ℕ E) (n : ℕ) → OkIff r (capped n < 4294967296) (capped n) → None ≡ result_ok r → 4294967295 < n
+fits_none (Ok x) n h e = absurd (let z : ◌≡◌ {A = ℕ} 0 1 = cc in omega arith)
+fits_none (Err d) n h e = let g : capped n < 4294967296 → ⊥ = h in omega (arith, capped_min n)
 
-pub value_end : (v : ℕ) (ds : List ℕ) (i : ℕ) → length ds ≤ i → number_from v (drop i ds) ≡ v
-unfolding number_from
-value_end v ds i h = rw (drop_of_length-le ds h)
-
--- a limit of 32 bits does not see the cap
-module _ (n most : ℕ) (h : most ≤ 4294967295) where
-  limit_by : (b : Bool) → ltb 4294967295 n ≡ b → ltb most (capped n) ≡ ltb most n
-  limit_by true e = let k : 4294967295 < n = ltb-true _ _ e in rw (cap_over n k, lt-ltb most n (omega arith), lt-ltb most 4294967296 (omega arith))
-  limit_by false e = rw (cap_under n (ltb-false _ _ e))
-
-  pub limit : ltb most (capped n) ≡ ltb most n
-  limit = limit_by (ltb 4294967295 n) refl
-
-  number_by : (b : Bool) → ltb 4294967295 n ≡ b → capped n ≤ most → capped n % 4294967296 ≡ n
-  number_by true e k = absurd (let q : capped n ≡ 4294967296 = cap_over n (ltb-true _ _ e) in omega arith)
-  number_by false e k = let l : n ≤ 4294967295 = ltb-false _ _ e in let q : capped n ≡ n = cap_under n l in omega arith
-
-  pub number : capped n ≤ most → capped n % 4294967296 ≡ n
-  number = number_by (ltb 4294967295 n) refl
-
--- what stands behind a decimal, how a decimal is spelt, what a line opens with, by the bytes of a list
-pub end_none : (v n : ℕ) (s : List ℕ) → length s ≤ n → end_by v n (drop n s) ≡ end_by v n []
-end_none v n s h = rw (drop_of_length-le s h)
-
-pub end_some : (v n : ℕ) (s : List ℕ) → n < length s → end_by v n (drop n s) ≡ end_by v n (get_or s n 0 ∷ [])
-end_some v n s h = rw (drop-cons s n 0 h)
-
+-- how a decimal is spelt, what a line opens with, by the bytes of a list
 pub spelt_none : (ds : List ℕ) → length ds ≡ 0 → well_spelt ds ≡ false
 unfolding well_spelt
 spelt_none [] e = refl
@@ -127,23 +108,30 @@ spelt_one [] e = absurd (omega arith)
 spelt_one (d ∷ []) e = refl
 spelt_one (d ∷ x ∷ ds) e = absurd (omega arith)
 
-pub spelt_more : (ds : List ℕ) → (length ds ≡ 0 → ⊥) → (length ds ≡ 1 → ⊥) → well_spelt ds ≡ not (eqb (get_or ds 0 0) 48)
+pub spelt_more : (ds : List ℕ) → 2 ≤ length ds → well_spelt ds ≡ not (eqb (get_or ds 0 0) 48)
 unfolding well_spelt
-spelt_more [] e f = absurd (e refl)
-spelt_more (d ∷ []) e f = absurd (f refl)
-spelt_more (d ∷ x ∷ ds) e f = refl
+spelt_more [] h = absurd (omega arith)
+spelt_more (d ∷ []) h = absurd (omega arith)
+spelt_more (d ∷ x ∷ ds) h = refl
 
-pub opens_short : (s : List ℕ) (c : ℕ) → length s < 2 → opens_with s c ≡ false
-unfolding opens_with
-opens_short [] c h = refl
-opens_short (b ∷ []) c h = refl
-opens_short (b ∷ t ∷ s) c h = absurd (omega arith)
+same_order : (a b : ℕ) → eqb a b ≡ eqb b a
+same_order a b = by (eqb a b) refl where
+  by : (t : Bool) → eqb a b ≡ t → t ≡ eqb b a
+  by true e = sym (eq-eqb b a (sym (eqb-true a b e)))
+  by false e = sym (ne_eqb b a (λ q. eqb-false a b e (sym q)))
 
-pub opens_long : (s : List ℕ) (c : ℕ) → 2 ≤ length s → opens_with s c ≡ pick (eqb (get_or s 0 0) c) (eqb (get_or s 1 0) 9) false
+pub starts_opens : (s : List ℕ) (c : ℕ) → starts_with eqb s (c ∷ 9 ∷ []) ≡ opens_with s c
 unfolding opens_with
-opens_long [] c h = absurd (omega arith)
-opens_long (b ∷ []) c h = absurd (omega arith)
-opens_long (b ∷ t ∷ s) c h = refl
+starts_opens [] c = refl
+starts_opens (b ∷ []) c = by (eqb c b) where
+  by : (t : Bool) → t && false ≡ false
+  by true = refl
+  by false = refl
+starts_opens (b ∷ t ∷ s) c = rw (same_order c b, same_order 9 t) (by (eqb b c) (eqb t 9)) where
+  by : (u v : Bool) → u && (v && true) ≡ also u v
+  by true true = refl
+  by true false = refl
+  by false v = refl
 
 -- the number in a field keeps to the limit
 abbrev pub value_in : Field → ℕ
@@ -166,3 +154,10 @@ field_by_lem false b v n s most e = omega arith
 pub field_le : (s : List ℕ) (most : ℕ) → value_in (field_of s most) ≤ most
 unfolding field_of
 field_le s most = field_by_lem (well_spelt (take (span is_digit s) s)) (ltb most (number_of (take (span is_digit s) s))) (number_of (take (span is_digit s) s)) (span is_digit s) (drop (span is_digit s) s) most refl
+
+-- the same of what a reader answers
+pub read_le : (f : code.Field) (s : List ℕ) (most : ℕ) → field_by_next f.next f.number ≡ field_of s most → f.number ≤ most
+read_le f s most e = let q : value_in (field_of s most) ≡ f.number = rw e at (by f.next f.number) in omega (arith, field_le s most) where
+  by : (o : Option ℕ) (v : ℕ) → value_in (field_by_next o v) ≡ v
+  by (Some n) v = refl
+  by None v = refl

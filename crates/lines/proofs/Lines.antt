@@ -1,6 +1,6 @@
 -- The lines of an input: the first of them, those from a place on, one more of them for the end of an input (tail_of)
 -- and for its R lines (judge).
-use Prim.Native.Nat.{ℕ, zero, suc, ◌+◌, ◌-◌, ◌%◌, ◌<◌, ◌≤◌, min}
+use Prim.Native.Nat.{ℕ, zero, suc, ◌+◌, ◌-◌, ◌<◌, ◌≤◌, min}
 use mathlib.Core.Bool.{Bool, true, false}
 use mathlib.Core.List.{List, [], ◌∷◌, ◌++◌, append-nil}
 use mathlib.Core.Path.{◌≡◌, refl, sym, ap, ◌∙◌}
@@ -14,23 +14,20 @@ use Rattle.lines.specs.Base.{pick}
 use Rattle.lines.specs.Line.{span, no_lf, cut_line, width_by, width_of, on_first, lines_of, joined}
 use Rattle.lines.specs.Tail.{opens, all_open, before_run, start_of, last_of, tail, tail_of, tail_with}
 use Rattle.lines.specs.Goal.{goal_line, goal_by, last_goal}
-use Rattle.lines.specs.Codes.{code_by, code_in, code_cut, next_code, judge_by, judge_from, judged, codes_by, last_codes}
-use Rattle.lines.specs.Field.{field_of, opens_with}
+use Rattle.lines.specs.Codes as C
+use Rattle.lines.specs.Codes.{Code, line_read, code_read, code_by, code_in, code_cut, next_code, judge_by, judge_from, judged, codes_by, last_codes}
+use Rattle.lines.specs.Field as F
+use Rattle.lines.specs.Field.{Field, field_of, opens_with}
 use Rattle.lines.specs.declared.tail.Tail.{Tail}
-use Rattle.lines.specs.declared.field.Cut.{Cut}
-use Rattle.lines.specs.declared.field.Cut.TheVariants.{Line, Open}
-use Rattle.lines.specs.declared.field.Field.{Field}
-use Rattle.lines.specs.declared.field.Field.TheVariants as F
-use Rattle.lines.specs.declared.goal.Goal.TheVariants as G
-use Rattle.lines.specs.declared.codes.Code.{Code}
-use Rattle.lines.specs.declared.codes.Code.TheVariants as C
-use Rattle.lines.specs.declared.codes.Judged.{Judged}
-use Rattle.lines.specs.declared.codes.Judged.TheVariants.{All, BadAt}
+use Rattle.lines.specs.declared.tail.Fault.TheVariants as A
+use Rattle.std.specs.Prelude.{Option, Some, None, Result, Ok, Err, IsErr}
+use Rattle.lines.specs.declared.codes.Code as code
+use Rattle.lines.specs.declared.codes.BadLine.{BadLine}
 use Rattle.lines.proofs.Laws.{span_le}
 
 -- ---- the first line
 
-width_by_lem : (b : Bool) (n : ℕ) (s : List ℕ) → ltb n (length s) ≡ b → n ≤ length s → width_by (pick b (Line n) Open) s ≡ min (n + 1) (length s)
+width_by_lem : (b : Bool) (n : ℕ) (s : List ℕ) → ltb n (length s) ≡ b → n ≤ length s → width_by (pick b (Some n) None) s ≡ min (n + 1) (length s)
 width_by_lem true n s e h = omega (arith, ltb-true n (length s) e)
 width_by_lem false n s e h = omega (arith, ltb-false n (length s) e)
 
@@ -277,6 +274,15 @@ pub go_end : (c : ℕ) (s : List ℕ) (t : Tail) (at n : ℕ) → length s ≤ a
 unfolding lines_of
 go_end c s t at n h = rw (drop_of_length-le s h)
 
+-- ---- what a `?` saw
+pub line_err : (r : Result code.Code BadLine) → IsErr r → line_read r ≡ C.Bad
+line_err (Ok c) h = absurd (let z : false ≡ true = h in cc)
+line_err (Err e) h = refl
+
+pub code_err : (r : Result (Option code.Code) BadLine) → IsErr r → code_read r ≡ C.Bad
+code_err (Ok c) h = absurd (let z : false ≡ true = h in cc)
+code_err (Err e) h = refl
+
 -- ---- R lines: the first of a rest of them, one line more, the first bad one
 
 abbrev pub next_in : Code → ℕ → ℕ
@@ -297,9 +303,9 @@ code_in_lem : (line : List ℕ) (next : ℕ) → next_in (code_in line next) nex
 unfolding code_in
 code_in_lem line next = in_by (opens_with line 82) (field_of (drop 2 line) 65535) next
 
-cut_next : (k : Cut) (s : List ℕ) → next_in (code_cut k s) (width_by k s) ≡ width_by k s
-cut_next (Line n) s = code_in_lem (take n s) (n + 1)
-cut_next Open s = refl
+cut_next : (k : Option ℕ) (s : List ℕ) → next_in (code_cut k s) (width_by k s) ≡ width_by k s
+cut_next (Some n) s = code_in_lem (take n s) (n + 1)
+cut_next None s = refl
 
 next_by : (t : Bool) (s : List ℕ) → next_in (pick t C.End (code_cut (cut_line s) s)) (width_of s) ≡ width_of s
 unfolding width_of
@@ -317,9 +323,21 @@ pub record Moved (s : List ℕ) (at n : ℕ) : Type 0 where
   pub some : 0 < n
   pub within : at + n ≤ length s
 
-pub next_moves : (s r : List ℕ) (at v n : ℕ) → at < length s → r ≡ drop at s → C.Next v n ≡ next_code r → Moved s at n
-next_moves s r at v n h d e =
-    let q : n ≡ width_of r = rw (← e) at (next_width r) in
+-- what is left where no byte is
+none_left : (s : List ℕ) (at : ℕ) → length s ≤ at → next_code (drop at s) ≡ C.End
+unfolding next_code
+none_left s at h = rw (drop_of_length-le s h)
+
+inside : (s : List ℕ) (at v n : ℕ) → next_code (drop at s) ≡ C.Next v n → at < length s
+inside s at v n e = by (ltb at (length s)) refl where
+  by : (t : Bool) → ltb at (length s) ≡ t → at < length s
+  by true q = ltb-true _ _ q
+  by false q = absurd (let h = none_left s at (ltb-false _ _ q) in let z : ◌≡◌ {A = ℕ} 0 1 = cc in omega arith)
+
+pub next_moves : (s r : List ℕ) (at v n : ℕ) → r ≡ drop at s → next_code r ≡ C.Next v n → Moved s at n
+next_moves s r at v n d e =
+    let h : at < length s = inside s at v n (rw d at e) in
+    let q : n ≡ width_of r = rw e at (next_width r) in
     let l : length r ≡ length s - at = ap length d ∙ length-drop at s in
     let k : 0 < width_of r = width_some r (omega arith) in
     record { is = q ∙ ap width_of d; some = omega arith; within = omega (arith, width_le r) }
@@ -361,23 +379,28 @@ first_by_lem false s e =
 pub first_line : (s : List ℕ) → next_code (take (width_of s) s) ≡ next_code s
 first_line s = first_by_lem (ltb (span no_lf s) (length s)) s refl
 
-pub judge_more : (s : List ℕ) (at i : ℕ) → at < length s
+judge_more_lem : (s : List ℕ) (at i : ℕ) → at < length s
     → judge_from i (lines_of (drop at s)) ≡ judge_by (next_code (drop at s)) i (judge_from (i + 1) (lines_of (drop (at + width_of (drop at s)) s)))
 unfolding judge_from
-judge_more s at i h =
+judge_more_lem s at i h =
     let r = drop at s in
     let some : 0 < length r = omega (arith, length-drop at s) in
     ap (judge_from i) (lines_cons r some) ∙ rw (first_line r, drop-drop (width_of r) at s)
 
-pub judge_end : (s : List ℕ) (at i : ℕ) → length s ≤ at → judge_from i (lines_of (drop at s)) ≡ All
+pub judge_turn : (s : List ℕ) (at i : ℕ)
+    → judge_from i (lines_of (drop at s)) ≡ judge_by (next_code (drop at s)) i (judge_from (i + 1) (lines_of (drop (at + width_of (drop at s)) s)))
 unfolding lines_of judge_from
-judge_end s at i h = rw (drop_of_length-le s h)
+judge_turn s at i = by (ltb at (length s)) refl where
+  by : (t : Bool) → ltb at (length s) ≡ t
+      → judge_from i (lines_of (drop at s)) ≡ judge_by (next_code (drop at s)) i (judge_from (i + 1) (lines_of (drop (at + width_of (drop at s)) s)))
+  by true q = judge_more_lem s at i (ltb-true _ _ q)
+  by false q = let h : length s ≤ at = ltb-false _ _ q in rw (none_left s at h, drop_of_length-le s h)
 
-abbrev bad_in : Judged → ℕ
-bad_in All = 0
-bad_in (BadAt i) = i
+abbrev bad_in : Option ℕ → ℕ
+bad_in None = 0
+bad_in (Some i) = i
 
-bad_by : (k : Code) (j : Judged) (i m : ℕ) → bad_in j ≤ m → i ≤ m → bad_in (judge_by k i j) ≤ m
+bad_by : (k : Code) (j : Option ℕ) (i m : ℕ) → bad_in j ≤ m → i ≤ m → bad_in (judge_by k i j) ≤ m
 bad_by (C.Next v n) j i m h g = h
 bad_by C.End j i m h g = omega arith
 bad_by C.Bad j i m h g = g
@@ -390,9 +413,9 @@ bad_le i (l ∷ ls) =
     let g : bad_in (judge_from (i + 1) ls) ≤ i + suc (length ls) = omega arith in
     bad_by (next_code l) (judge_from (i + 1) ls) i (i + suc (length ls)) g (omega arith)
 
-pub bad_small : (s : List ℕ) (i : ℕ) → BadAt i ≡ judged s → length s ≤ 65536 → i % 65537 ≡ i
+pub bad_small : (s : List ℕ) (i : ℕ) → judged s ≡ Some i → length s ≤ 65536 → i ≤ 65536
 unfolding judged
-bad_small s i e h = let b : i ≤ 0 + length (lines_of s) = rw (← e) at (bad_le 0 (lines_of s)) in omega (arith, lines_few s)
+bad_small s i e h = let b : i ≤ 0 + length (lines_of s) = rw e at (bad_le 0 (lines_of s)) in omega (arith, lines_few s)
 
 -- ---- the whole input
 
@@ -406,27 +429,30 @@ before_le c [] = omega arith
 before_le c (l ∷ ls) = before_by (all_open c (l ∷ ls)) (before_run c ls) (length ls) (before_le c ls)
 
 module _ (s : List ℕ) (t : Tail) (h : length s ≤ 65536) where
-  pub codes_end : t ≡ tail_of 82 s → last_codes s ≡ codes_by (judged (drop t.start s)) t.start (t.before % 65537)
+  pub lines_small : (c : ℕ) → t ≡ tail_of c s → t.lines ≤ 65536
+  unfolding tail_of
+  lines_small c e = rw e (omega (arith, lines_few s))
+
+  pub before_small : (c : ℕ) → t ≡ tail_of c s → t.before ≤ 65536
+  unfolding tail_of
+  before_small c e = rw e (omega (arith, before_le c (lines_of s), lines_few s))
+
+  pub codes_end : t ≡ tail_of 82 s → last_codes s ≡ codes_by (judged (drop t.start s)) t.start t.before
   unfolding tail_of last_codes judged
-  codes_end e =
-      let n = before_run 82 (lines_of s) in
-      let q : n % 65537 ≡ n = omega (arith, before_le 82 (lines_of s), lines_few s) in
-      rw (e, q, le-ltb 65536 (length s) h, lines_from n s)
+  codes_end e = rw (e, le-ltb 65536 (length s) h, lines_from (before_run 82 (lines_of s)) s)
 
   last_byte : (c : ℕ) → t ≡ tail_of c s → get_or s t.last 0 ≡ get_or (last_of (lines_of s)) 0 0
   unfolding tail_of
   last_byte c e = rw (e, ← (last_line s), get_or-drop) (ap (λ (k : ℕ). get_or s k 0) (omega arith))
 
-  pub goal_none : t ≡ tail_of 71 s → (get_or s t.last 0 ≡ 71 → ⊥) → last_goal s ≡ G.Bad (t.lines % 65537 + 1)
+  pub goal_none : t ≡ tail_of 71 s → (get_or s t.last 0 ≡ 71 → ⊥) → last_goal s ≡ Err (A.Bad (t.lines + 1))
   unfolding tail_of last_goal
   goal_none e f =
-      let q : length (lines_of s) % 65537 ≡ length (lines_of s) = omega (arith, lines_few s) in
       let g : eqb (get_or (last_of (lines_of s)) 0 0) 71 ≡ false = ne_eqb _ _ (λ p. f (last_byte 71 e ∙ p)) in
-      rw (e, q, le-ltb 65536 (length s) h, g)
+      rw (e, le-ltb 65536 (length s) h, g)
 
-  pub goal_some : t ≡ tail_of 71 s → get_or s t.last 0 ≡ 71 → last_goal s ≡ goal_by (goal_line (drop t.last s)) t.last (t.lines % 65537)
+  pub goal_some : t ≡ tail_of 71 s → get_or s t.last 0 ≡ 71 → last_goal s ≡ goal_by (goal_line (drop t.last s)) t.last t.lines
   unfolding tail_of last_goal
   goal_some e f =
-      let q : length (lines_of s) % 65537 ≡ length (lines_of s) = omega (arith, lines_few s) in
       let g : eqb (get_or (last_of (lines_of s)) 0 0) 71 ≡ true = eq-eqb _ _ (sym (last_byte 71 e) ∙ f) in
-      rw (e, q, le-ltb 65536 (length s) h, g, last_line s)
+      rw (e, le-ltb 65536 (length s) h, g, last_line s)

@@ -13,15 +13,12 @@ use lib.Dec.{ltb, eqb}
 use borrow.Author.Tests.{ltb-true, ltb-false, lt-ltb, le-ltb, eqb-true, ne_eqb, le-leb}
 use Rattle.lines.specs.Base.{pick}
 use Rattle.lines.specs.Line.{span, no_lf, cut_line, lines_of, joined}
-use Rattle.lines.specs.Field.{is_digit, well_spelt, number_from, number_of, end_by, field_of}
+use Rattle.lines.specs.Field.{Bad, is_digit, well_spelt, number_from, number_of, end_by, field_of}
 use Rattle.lines.specs.Tail.{all_open, before_run, start_of}
-use Rattle.lines.specs.Codes.{next_code, judge_by, judge_from}
+use Rattle.lines.specs.Codes as C
+use Rattle.lines.specs.Codes.{Code, next_code, judge_by, judge_from}
 use Rattle.lines.specs.Put.{written, put_byte, put_all, digit_of, decimal_in, decimal}
-use Rattle.lines.specs.declared.field.Cut.TheVariants.{Line, Open}
-use Rattle.lines.specs.declared.field.Field.TheVariants.{Bad}
-use Rattle.lines.specs.declared.codes.Code.{Code}
-use Rattle.lines.specs.declared.codes.Code.TheVariants as C
-use Rattle.lines.specs.declared.codes.Judged.TheVariants.{BadAt}
+use Rattle.std.specs.Prelude.{Some, None}
 use Rattle.lines.proofs.Lines.{joined_lines, before_by}
 
 -- ---- bytes that pass a test
@@ -63,11 +60,11 @@ line_is : (s : List ℕ) → span no_lf s < length s → IsLine s (span no_lf s)
 line_is [] h = absurd (omega arith)
 line_is (b ∷ s) h = line_by_lem (eqb b 10) b s refl h (line_is s)
 
-cut_by_lem : (t : Bool) (s : List ℕ) (n : ℕ) → ltb (span no_lf s) (length s) ≡ t → pick t (Line (span no_lf s)) Open ≡ Line n → IsLine s n
+cut_by_lem : (t : Bool) (s : List ℕ) (n : ℕ) → ltb (span no_lf s) (length s) ≡ t → pick t (Some (span no_lf s)) None ≡ Some n → IsLine s n
 cut_by_lem true s n e h = let q : span no_lf s ≡ n = cc in rw q at (line_is s (ltb-true _ _ e))
 cut_by_lem false s n e h = absurd (let z : ◌≡◌ {A = ℕ} 0 1 = cc in omega arith)
 
-pub cut_is_line : (s : List ℕ) (n : ℕ) → cut_line s ≡ Line n → IsLine s n
+pub cut_is_line : (s : List ℕ) (n : ℕ) → cut_line s ≡ Some n → IsLine s n
 unfolding cut_line
 cut_is_line s n h = cut_by_lem (ltb (span no_lf s) (length s)) s n refl h
 
@@ -118,8 +115,8 @@ bad_later c i k l ls e f b = record { far = omega arith; bad = at; first = befor
   before zero h p = f (sym e ∙ p)
   before (suc j) h p = b.first j (omega arith) p
 
-bad_by : (c : Code) (i k : ℕ) (l : List ℕ) (ls : List (List ℕ)) → next_code l ≡ c → judge_by c i (judge_from (i + 1) ls) ≡ BadAt k
-    → (judge_from (i + 1) ls ≡ BadAt k → FirstBad (i + 1) k ls) → FirstBad i k (l ∷ ls)
+bad_by : (c : Code) (i k : ℕ) (l : List ℕ) (ls : List (List ℕ)) → next_code l ≡ c → judge_by c i (judge_from (i + 1) ls) ≡ Some k
+    → (judge_from (i + 1) ls ≡ Some k → FirstBad (i + 1) k ls) → FirstBad i k (l ∷ ls)
 bad_by (C.Next v n) i k l ls e h f = bad_later (C.Next v n) i k l ls e (λ p. let z : ◌≡◌ {A = ℕ} 0 1 = cc in omega arith) (f h)
 bad_by C.End i k l ls e h f = absurd (let z : ◌≡◌ {A = ℕ} 0 1 = cc in omega arith)
 bad_by C.Bad i k l ls e h f =
@@ -128,7 +125,7 @@ bad_by C.Bad i k l ls e h f =
     record { far = omega arith; bad = rw z e; first = λ j g. absurd (omega arith) }
 
 -- the line named is bad, and none before it is
-pub first_bad : (i k : ℕ) (ls : List (List ℕ)) → judge_from i ls ≡ BadAt k → FirstBad i k ls
+pub first_bad : (i k : ℕ) (ls : List (List ℕ)) → judge_from i ls ≡ Some k → FirstBad i k ls
 unfolding judge_from
 first_bad i k [] h = absurd (let z : ◌≡◌ {A = ℕ} 0 1 = cc in omega arith)
 first_bad i k (l ∷ ls) h = bad_by (next_code l) i k l ls refl h (first_bad (i + 1) k ls)

@@ -1,9 +1,24 @@
 -- A field: "fields parted by one tab, decimals .. with no needless zero". A tab is byte 9, the digits are bytes 48 to 57.
-use Rattle.std.specs.Prelude.{ℕ, ◌+◌, ◌*◌, ◌-◌, Bool, true, false, not, List, [], ◌∷◌, take, drop, ltb, leb, eqb}
+use Rattle.std.specs.Prelude.{ℕ, ◌+◌, ◌*◌, ◌-◌, Bool, true, false, not, List, [], ◌∷◌, take, drop, ltb, leb, eqb, Option, Some, None}
 use Rattle.lines.specs.Base.{pick, also}
 use Rattle.lines.specs.Line.{span}
-use Rattle.lines.specs.declared.field.Field.{Field}
-use Rattle.lines.specs.declared.field.Field.TheVariants.{More, Last, Bad}
+use Rattle.lines.specs.declared.field.Field as code
+
+-- what a rest of a line opens with: a decimal and a tab, behind which the rest starts at a place; a decimal that ends the
+-- line; anything else
+pub data Field : Type 0 where
+  More : ℕ → ℕ → Field
+  Last : ℕ → Field
+  Bad : Field
+
+abbrev pub field_by_next : Option ℕ → ℕ → Field
+field_by_next (Some next) v = More v next
+field_by_next None v = Last v
+
+-- a reader's answer
+abbrev pub field_read : Option code.Field → Field
+field_read (Some f) = field_by_next f.next f.number
+field_read None = Bad
 
 unfoldable pub is_digit : ℕ → Bool
 is_digit b = pick (ltb b 48) false (leb b 57)

@@ -1,8 +1,6 @@
 -- The lines of an input: "LF after each line". LF is byte 10. Bytes after the last LF are one more line.
-use Rattle.std.specs.Prelude.{ℕ, ◌+◌, ◌≤◌, ◌<◌, Bool, not, List, [], ◌∷◌, ◌++◌, ◌≡◌, length, ltb, eqb}
+use Rattle.std.specs.Prelude.{ℕ, ◌+◌, ◌≤◌, ◌<◌, Bool, not, List, [], ◌∷◌, ◌++◌, ◌≡◌, length, ltb, eqb, Option, Some, None}
 use Rattle.lines.specs.Base.{pick}
-use Rattle.lines.specs.declared.field.Cut.{Cut}
-use Rattle.lines.specs.declared.field.Cut.TheVariants.{Line, Open}
 
 -- how many bytes a list opens with that pass a test
 unfoldable pub span : (ℕ → Bool) → List ℕ → ℕ
@@ -13,12 +11,12 @@ unfoldable pub no_lf : ℕ → Bool
 no_lf b = not (eqb b 10)
 
 -- what a rest of an input opens with: a line of so many bytes and then its LF, or bytes with no LF
-unfoldable pub cut_line : List ℕ → Cut
-cut_line s = pick (ltb (span no_lf s) (length s)) (Line (span no_lf s)) Open
+unfoldable pub cut_line : List ℕ → Option ℕ
+cut_line s = pick (ltb (span no_lf s) (length s)) (Some (span no_lf s)) None
 
-abbrev pub width_by : Cut → List ℕ → ℕ
-width_by (Line n) s = n + 1
-width_by Open s = length s
+abbrev pub width_by : Option ℕ → List ℕ → ℕ
+width_by (Some n) s = n + 1
+width_by None s = length s
 
 -- how many bytes its first line has, the LF with them
 unfoldable pub width_of : List ℕ → ℕ

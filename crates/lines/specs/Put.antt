@@ -2,6 +2,7 @@
 -- by one blank, byte 32, and LF stands after each line.
 use Rattle.std.specs.Prelude.{ℕ, zero, suc, ◌+◌, ◌/◌, ◌%◌, List, [], ◌∷◌, ◌++◌, length, set, ltb}
 use Rattle.lines.specs.Base.{pick}
+use Rattle.lines.specs.declared.put.Page.{Page}
 use Rattle.lines.specs.declared.put.Word.{Word}
 use Rattle.lines.specs.declared.put.Word.TheVariants.{Bad, End, Stop, Ok, No, Done, Refused}
 
@@ -12,6 +13,10 @@ pub record Written : Type 0 where
 
 abbrev pub written : ℕ → List ℕ → Written
 written at l = record { next = at; buf = l }
+
+-- the same of a page
+abbrev pub seen : Page → Written
+seen p = written p.next p.bytes.now
 
 -- a byte that finds the buffer full is dropped, and the place stays
 unfoldable pub put_byte : ℕ → Written → Written

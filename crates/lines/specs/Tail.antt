@@ -3,6 +3,17 @@ use Rattle.std.specs.Prelude.{ℕ, ◌+◌, ◌-◌, Bool, true, List, [], ◌�
 use Rattle.lines.specs.Base.{pick, also, byte_at}
 use Rattle.lines.specs.Line.{lines_of, joined}
 use Rattle.lines.specs.declared.tail.Tail.{Tail}
+use Rattle.lines.specs.declared.tail.Fault.{Fault}
+use Rattle.lines.specs.declared.tail.Fault.TheVariants as A
+
+-- the paper's number and line for each fault
+abbrev pub fault_number : Fault → ℕ
+fault_number (A.Bad n) = 20
+fault_number A.Long = 26
+
+abbrev pub fault_line : Fault → ℕ
+fault_line (A.Bad n) = n
+fault_line A.Long = 0
 
 -- a line belongs to a letter by its first byte, whatever follows
 abbrev pub opens : ℕ → List ℕ → Bool

@@ -3,166 +3,107 @@
 ghost use Rattle.std.specs.Prelude.{◌≡◌, ◌+◌, ◌*◌, ◌-◌, take, drop};
 ghost use Rattle.lines.specs.Base.{byte_at};
 ghost use Rattle.lines.specs.Line.{span, cut_line};
-ghost use Rattle.lines.specs.Field.{is_digit, well_spelt, number_of, capped, end_by, field_of, opens_with};
+ghost use Rattle.lines.specs.Field.{is_digit, well_spelt, number_of, capped, end_by, field_of, opens_with, field_read};
 
-// What a rest of an input opens with.
-#[derive(Drop)]
-pub enum Cut {
-    // a line of that many bytes, and its LF after them
-    Line(usize),
-    // bytes with no LF behind them
-    Open,
+// The decimal that a rest of a line opens with.
+#[derive(Clone, Copy)]
+pub struct Field {
+    pub number: u32,
+    // where the rest after its tab starts; none where the decimal ends the line
+    pub next: Option<usize>,
 }
 
-// What a rest of a line opens with.
-#[derive(Drop)]
-pub enum Field {
-    // a decimal and a tab: the rest starts at that place
-    More(u32, usize),
-    // a decimal that ends the line
-    Last(u32),
-    // anything else
-    Bad,
-}
+// No limit passes 32 bits: a number that does is taken for the first one over, so that a sum always fits.
+const OVER: u64 = 1 << 32;
 
 // The bytes from a place on; none where the place lies past the end.
 pub fn rest_of(s: &[u8], at: usize) -> &[u8]
     ensures { result.now ≡ drop at s.now }
 {
-    if at <= s.len() { &s[at..] } else { &s[0..0] }
+    s.get(at..).unwrap_or(&[])
 }
 
 // The bytes before a place; all where the place lies past the end.
 pub fn front_of(s: &[u8], end: usize) -> &[u8]
     ensures { result.now ≡ take end s.now }
 {
-    if end <= s.len() { &s[0..end] } else { s }
+    s.get(..end).unwrap_or(s)
 }
 
 // The byte at a place, 0 where there is none.
 pub fn byte_at(s: &[u8], at: usize) -> u8
     ensures { result ≡ byte_at s.now at }
 {
-    if at < s.len() { s[at] } else { 0 }
+    s.get(at).copied().unwrap_or(0)
 }
 
-// Where the first LF stands.
-pub fn cut_line(s: &[u8]) -> Cut
+// Where the first LF stands, if there is one.
+pub fn cut_line(s: &[u8]) -> Option<usize>
     ensures { result ≡ cut_line s.now }
 {
-    let mut i = 0;
-    while i < s.len() {
-        if s[i] == b'\n' {
-            return Cut::Line(i);
-        }
-        i += 1;
-    }
-    Cut::Open
-}
-
-fn is_digit(b: u8) -> bool
-    ensures { result ≡ is_digit b }
-{
-    if b < b'0' {
-        return false;
-    }
-    b <= b'9'
+    s.iter().position(|b| *b == b'\n')
 }
 
 // How many digits a rest of a line opens with.
 fn digits(s: &[u8]) -> usize
     ensures { result ≡ span is_digit s.now }
 {
-    let mut i = 0;
-    while i < s.len() {
-        if is_digit(s[i]) {
-            i += 1;
-        } else {
-            return i;
-        }
-    }
-    i
-}
-
-// What a digit is worth.
-fn worth(b: u8) -> u64
-    ensures { result ≡ b - 48 }
-{
-    if b < b'0' { 0 } else { (b - b'0') as u64 }
-}
-
-// No limit passes 32 bits: a number that does is taken for the first one over, so that a sum always fits.
-fn cap(n: u64) -> u64
-    ensures { result ≡ capped n }
-{
-    if 4294967295 < n { 4294967296 } else { n }
+    s.iter().take_while(|b| b.is_ascii_digit()).count()
 }
 
 // One digit more.
 fn longer(n: u64, b: u8) -> u64
     ensures { result ≡ capped (n * 10 + (b - 48)) }
 {
-    if 4294967295 < n {
-        return 4294967296;
-    }
-    cap(n * 10 + worth(b))
+    let digit = u64::from(b.saturating_sub(b'0'));
+    n.saturating_mul(10).saturating_add(digit).min(OVER)
 }
 
 // The number that digits spell.
 fn value(ds: &[u8]) -> u64
     ensures { result ≡ capped (number_of ds.now) }
 {
-    let mut v = 0;
-    let mut i = 0;
-    while i < ds.len() {
-        v = longer(v, ds[i]);
-        i += 1;
-    }
-    v
+    ds.iter().fold(0, |v, b| longer(v, *b))
 }
 
 // One digit at least, and no zero before another digit.
 fn well_spelt(ds: &[u8]) -> bool
     ensures { result ≡ well_spelt ds.now }
 {
-    if ds.len() == 0 {
-        return false;
+    match ds {
+        [] => false,
+        [_] => true,
+        [first, ..] => *first != b'0',
     }
-    if ds.len() == 1 {
-        return true;
-    }
-    ds[0] != b'0'
 }
 
 // What stands behind the n bytes of a decimal: the end of the line, or a tab.
-fn behind(s: &[u8], n: usize, number: u32) -> Field
-    ensures { result ≡ end_by number n (drop n s.now) }
+fn behind(s: &[u8], n: usize, number: u32) -> Option<Field>
+    ensures { field_read result ≡ end_by number n (drop n s.now) }
 {
-    if s.len() <= n {
-        return Field::Last(number);
-    }
-    if s[n] == b'\t' {
-        let next = n + 1;
-        Field::More(number, next)
-    } else {
-        Field::Bad
+    match s.get(n) {
+        None => Some(Field { number, next: None }),
+        Some(b'\t') => Some(Field {
+            number,
+            next: Some(n + 1),
+        }),
+        Some(_) => None,
     }
 }
 
-// The first field of the rest of a line: a decimal up to most, with no needless zero.
-pub fn read_field(s: &[u8], most: u32) -> Field
-    ensures { result ≡ field_of s.now most }
+// The first field of the rest of a line, if it has the form: a decimal up to most, with no needless zero.
+pub fn read_field(s: &[u8], most: u32) -> Option<Field>
+    ensures { field_read result ≡ field_of s.now most }
 {
     let n = digits(s);
     let ds = front_of(s, n);
     if !well_spelt(ds) {
-        return Field::Bad;
+        return None;
     }
-    let v = value(ds);
-    if (most as u64) < v {
-        return Field::Bad;
+    let number = u32::try_from(value(ds)).ok()?;
+    if most < number {
+        return None;
     }
-    let number = (v % 4294967296) as u32;
     behind(s, n, number)
 }
 
@@ -170,11 +111,5 @@ pub fn read_field(s: &[u8], most: u32) -> Field
 pub fn opens_with(s: &[u8], letter: u8) -> bool
     ensures { result ≡ opens_with s.now letter }
 {
-    if s.len() < 2 {
-        return false;
-    }
-    if s[0] != letter {
-        return false;
-    }
-    s[1] == b'\t'
+    s.starts_with(&[letter, b'\t'])
 }

@@ -3,18 +3,16 @@
 ghost use Rattle.std.specs.Prelude.{◌≡◌};
 ghost use Rattle.lines.specs.Goal.{budget_of, pair_of, goal_line, last_goal};
 
-use crate::field::{Cut, Field, byte_at, cut_line, front_of, opens_with, read_field, rest_of};
-use crate::tail::{Tail, tail_of};
+use crate::field::{byte_at, cut_line, front_of, opens_with, read_field, rest_of};
+use crate::tail::{Fault, Tail, tail_of};
 
-// What the end of an input says.
-#[derive(Drop)]
-pub enum Goal {
-    // the model is that many bytes; bound; budget
-    Good(usize, u8, u32),
-    // no G line, or a bad one, on that line (20)
-    Bad(u32),
-    // the whole input is too long (26, line 0)
-    Long,
+// What a last G line says.
+#[derive(Clone, Copy)]
+pub struct Goal {
+    // the model is that many bytes
+    pub at: usize,
+    pub bound: u8,
+    pub budget: u32,
 }
 
 impl Goal {
@@ -25,76 +23,61 @@ impl Goal {
 }
 
 // The two decimals of a G line.
-#[derive(Drop)]
-pub enum Pair {
-    Both(u8, u32),
-    Bad,
+#[derive(Clone, Copy)]
+pub struct Pair {
+    pub bound: u8,
+    pub budget: u32,
 }
 
 // The bound's field, then the budget's: the rest after the bound's tab is handed on.
-fn pair_of(rest: &[u8]) -> Pair
+fn pair_of(rest: &[u8]) -> Option<Pair>
     ensures { result ≡ pair_of rest.now }
 {
-    let f = read_field(rest, Goal::BOUND);
-    match f {
-        Field::More(bound, next) => {
-            if bound == 0 {
-                return Pair::Bad;
-            }
-            let small = (bound % 256) as u8;
-            budget_of(small, rest_of(rest, next))
-        }
-        Field::Last(_) => Pair::Bad,
-        Field::Bad => Pair::Bad,
+    let field = read_field(rest, Goal::BOUND)?;
+    let next = field.next?;
+    if field.number == 0 {
+        return None;
     }
+    budget_of(field.number as u8, rest_of(rest, next))
 }
 
-fn budget_of(bound: u8, rest: &[u8]) -> Pair
+fn budget_of(bound: u8, rest: &[u8]) -> Option<Pair>
     ensures { result ≡ budget_of bound rest.now }
 {
-    let f = read_field(rest, Goal::BUDGET);
-    match f {
-        Field::Last(budget) => Pair::Both(bound, budget),
-        Field::More(_, _) => Pair::Bad,
-        Field::Bad => Pair::Bad,
+    let field = read_field(rest, Goal::BUDGET)?;
+    match field.next {
+        None => Some(Pair {
+            bound,
+            budget: field.number,
+        }),
+        Some(_) => None,
     }
 }
 
 // A whole G line, its LF too.
-pub fn goal_line(rest: &[u8]) -> Pair
+pub fn goal_line(rest: &[u8]) -> Option<Pair>
     ensures { result ≡ goal_line rest.now }
 {
-    let c = cut_line(rest);
-    match c {
-        Cut::Line(n) => {
-            let line = front_of(rest, n);
-            if opens_with(line, b'G') {
-                pair_of(rest_of(line, 2))
-            } else {
-                Pair::Bad
-            }
-        }
-        Cut::Open => Pair::Bad,
+    let line = front_of(rest, cut_line(rest)?);
+    if !opens_with(line, b'G') {
+        return None;
     }
+    pair_of(rest_of(line, 2))
 }
 
 // The last line, if its first byte is G.
-pub fn last_goal(s: &[u8]) -> Goal
+pub fn last_goal(s: &[u8]) -> Result<Goal, Fault>
     ensures { result ≡ last_goal s.now }
 {
     if Tail::BYTES < s.len() {
-        return Goal::Long;
+        return Err(Fault::Long);
     }
     let t = tail_of(s, b'G');
     let at = t.last;
-    let line = (t.lines % 65537) as u32;
-    let past = line + 1;
+    let line = t.lines as u32;
     if byte_at(s, at) != b'G' {
-        return Goal::Bad(past);
+        return Err(Fault::Bad(line + 1));
     }
-    let p = goal_line(rest_of(s, at));
-    match p {
-        Pair::Both(bound, budget) => Goal::Good(at, bound, budget),
-        Pair::Bad => Goal::Bad(line),
-    }
+    let Pair { bound, budget } = goal_line(rest_of(s, at)).ok_or(Fault::Bad(line))?;
+    Ok(Goal { at, bound, budget })
 }

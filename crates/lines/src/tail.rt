@@ -2,11 +2,42 @@
 // letter. Bytes after the last LF are one more line.
 ghost use Rattle.std.specs.Prelude.{◌≡◌};
 ghost use Rattle.lines.specs.Line.{Width};
-ghost use Rattle.lines.specs.Tail.{tail, tail_of, tail_with};
+ghost use Rattle.lines.specs.Tail.{tail, tail_of, tail_with, fault_number, fault_line};
 
-use crate::field::{Cut, byte_at, cut_line, rest_of};
+use crate::field::{byte_at, cut_line, rest_of};
 
-#[derive(Drop)]
+// Why the end of an input is refused.
+#[derive(Clone, Copy)]
+pub enum Fault {
+    // a line that is missing or bad, by its number
+    Bad(u32),
+    // the whole input is too long
+    Long,
+}
+
+impl Fault {
+    // The number of the refusal.
+    pub fn number(self) -> u8
+        ensures { result ≡ fault_number self }
+    {
+        match self {
+            Fault::Bad(_) => 20,
+            Fault::Long => 26,
+        }
+    }
+
+    // The line that the refusal names, 0 for the whole input.
+    pub fn line(self) -> u32
+        ensures { result ≡ fault_line self }
+    {
+        match self {
+            Fault::Bad(line) => line,
+            Fault::Long => 0,
+        }
+    }
+}
+
+#[derive(Clone, Copy)]
 pub struct Tail {
     // how many lines there are
     pub lines: usize,
@@ -38,10 +69,9 @@ impl Tail {
 pub fn width(rest: &[u8]) -> usize
     ensures { Width rest.now result }
 {
-    let c = cut_line(rest);
-    match c {
-        Cut::Line(n) => n + 1,
-        Cut::Open => rest.len(),
+    match cut_line(rest) {
+        Some(n) => n + 1,
+        None => rest.len(),
     }
 }
 
@@ -53,8 +83,7 @@ fn with_line(t: Tail, at: usize, next: usize, lines: usize, same: bool) -> Tail
         Tail {
             lines,
             last: at,
-            start: t.start,
-            before: t.before,
+            ..t
         }
     } else {
         Tail {
@@ -72,6 +101,7 @@ pub fn tail_of(s: &[u8], letter: u8) -> Tail
     let mut t = Tail::empty();
     let mut at = 0;
     let mut lines = 0;
+    // kept: where a line starts is known once the one before it is measured
     while at < s.len() {
         let next = at + width(rest_of(s, at));
         let same = byte_at(s, at) == letter;

@@ -12,12 +12,11 @@ use Rattle.terms.proofs.Check.{test_sound}
 use Rattle.model.specs.declared.records.Model.{Model}
 use Rattle.state.specs.declared.control.Control.{Control}
 use Rattle.rules.specs.Step.{refused_step}
-use Rattle.rules.specs.declared.inner.Reply.{Reply}
-use Rattle.rules.specs.declared.inner.Reply.TheVariants.{Refused}
+use Rattle.rules.specs.Reply.{Reply, Refused}
 use Rattle.rules.proofs.Back.{step_back}
 use Rattle.audit.specs.Models.{sound_model}
 use Rattle.audit.specs.Configuration.{table_sound, sound_control}
-use Rattle.law.specs.Rules.{layout_of}
+use Rattle.rules.specs.Made.{layout_of}
 use Rattle.machine.specs.Step.{is_sound, inner_step, step_checked}
 
 -- a configuration that passes the test has a sound table

@@ -1,11 +1,16 @@
 -- One turn of each loop: what stands already, and what is still to come.
 use Prim.Native.Nat.{ℕ, zero, suc, ◌+◌, ◌-◌, ◌<◌, ◌≤◌}
-use mathlib.Core.Bool.{Bool, false}
+use mathlib.Core.Bool.{Bool, true, false}
 use mathlib.Core.List.{List}
-use mathlib.Core.Path.{◌≡◌}
+use mathlib.Core.Path.{◌≡◌, refl}
 use native.Mathlib.Numerals.{sub-one}
 use native.Mathlib.Nat.{sub-add-eq, sub-eq-zero_of_le}
 use native.Mathlib.Omega.{arith}
+use lib.ListN.{length, get_or}
+use lib.Dec.{ltb}
+use borrow.Author.Tests.{ltb-false}
+use Rattle.std.proofs.lemmas.List.{get_or_past}
+use Rattle.terms.specs.Base.{pick}
 use Rattle.model.specs.Fields.{either}
 use Rattle.model.specs.declared.records.Claim.{Claim}
 use Rattle.machine.specs.Judge.{any_from, sum_from, follow_at, follow_from}
@@ -49,3 +54,16 @@ module _ (l : List ℕ) (j : ℕ) (c : Claim) where
   pub follow_end : (n i k : ℕ) → n ≤ i → follow_from (n - i) i l j c k ≡ k
   unfolding follow_from
   follow_end n i k h = rw sub-eq-zero_of_le
+
+-- a place of a list so long, or 0 where there is none
+pub place_or : (n : ℕ) (l : List ℕ) (k : ℕ) → length l ≡ n → get_or l k 0 ≡ pick (ltb k n) (get_or l k 0) 0
+place_or n l k h = by (ltb k n) refl
+  where
+    by : (b : Bool) → ltb k n ≡ b → get_or l k 0 ≡ pick b (get_or l k 0) 0
+    by true e = refl
+    by false e = get_or_past l k 0 (omega (arith, h, ltb-false k n e))
+
+-- nothing else is asked
+pub either_none : (b : Bool) → either b false ≡ b
+either_none true = refl
+either_none false = refl

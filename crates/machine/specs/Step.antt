@@ -5,10 +5,10 @@ use Rattle.terms.specs.Base.{pick, also, Held, held}
 use Rattle.model.specs.declared.records.Model.{Model}
 use Rattle.state.specs.declared.control.Control.{Control}
 use Rattle.rules.specs.Step.{refused_step, step_on}
-use Rattle.rules.specs.declared.inner.Stepped.{Stepped}
+use Rattle.rules.specs.Reply.{Stepped}
 use Rattle.audit.specs.Models.{sound_model}
 use Rattle.audit.specs.Configuration.{sound_control}
-use Rattle.law.specs.Rules.{layout_of}
+use Rattle.rules.specs.Made.{layout_of}
 
 abbrev pub is_sound : Model → List ℕ → Control → Bool
 is_sound m l s = also (sound_model m) (sound_control m l s)

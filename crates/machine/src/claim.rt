@@ -1,8 +1,9 @@
 // The claim, judged over the records of a run. A step breaks it if it has an accept of the claim's program and no thread
 // made for the claim, by an earlier event, has in earlier events first jumped along the path.
+// kept: records and n are two parameters, since n may go past what is lent, where each number is 0 (first_break_on)
 ghost use Rattle.std.specs.Prelude.{◌≡◌};
 ghost use Rattle.machine.specs.Claim.{ended_in};
-ghost use Rattle.machine.specs.Judge.{accepts_at, makes_at, follow_at, follows_on, fulfils_at, walked_on, breaks_on, broken_by, first_accept, first_break_on, accepts_on};
+ghost use Rattle.machine.specs.Judge.{accepts_at, makes_at, follow_at, follows_on, fulfils_at, walked_on, breaks_on, broken_by, first_break_on, accepts_on};
 
 use crate::judge::{accepts_by, follow_by, makes_by};
 use model::records::Claim;
@@ -14,20 +15,14 @@ use state::ended::Ended;
 pub fn breaks(records: &[u16], n: u16, c: Claim) -> bool
     ensures { result ≡ breaks_on records.now n c }
 {
-    if !accepts(records, n, c.program) {
-        return false;
-    }
-    if walked(records, n, c) { false } else { true }
+    accepts(records, n, c.program) && !walked(records, n, c)
 }
 
 // A step by which these threads ended breaks the claim, the n records being what is earlier.
 pub fn broken_by(records: &[u16], n: u16, e: Ended, c: Claim) -> bool
     ensures { result ≡ broken_by records.now n e c }
 {
-    if !ends(e, c.program) {
-        return false;
-    }
-    if walked(records, n, c) { false } else { true }
+    ends(e, c.program) && !walked(records, n, c)
 }
 
 // A thread that was in this program has ended.
@@ -37,7 +32,7 @@ fn ends(e: Ended, program: u8) -> bool
     match e {
         Ended::Nobody => false,
         Ended::One(p) => p == program,
-        Ended::Two(p, q) => { if p == program { true } else { q == program } }
+        Ended::Two(p, q) => p == program || q == program,
     }
 }
 
@@ -46,27 +41,10 @@ fn ends(e: Ended, program: u8) -> bool
 pub fn first_break(records: &[u16], n: u16, c: Claim) -> u16
     ensures { result ≡ first_break_on records.now n c }
 {
-    let i = first_accept(records, n, c.program);
-    if i == n {
-        return 0;
+    match (0..n).find(|&i| accepts(records, i, c.program)) {
+        Some(i) if !walked(records, i, c) => one_more(i),
+        _ => 0,
     }
-    if walked(records, i, c) {
-        return 0;
-    }
-    one_more(i)
-}
-
-fn first_accept(records: &[u16], n: u16, program: u8) -> u16
-    ensures { result ≡ first_accept records.now n program }
-{
-    let mut i = 0;
-    while i < n {
-        if accepts(records, i, program) {
-            return i;
-        }
-        i += 1;
-    }
-    n
 }
 
 // Record i has an accept of a program: the ending of a thread that was in it.
@@ -83,24 +61,13 @@ pub fn accepts(records: &[u16], i: u16, program: u8) -> bool
 pub fn walked(records: &[u16], n: u16, c: Claim) -> bool
     ensures { result ≡ walked_on records.now n c }
 {
-    let mut i = 0;
-    while i < n {
-        if fulfils(records, n, i, c) {
-            return true;
-        }
-        i += 1;
-    }
-    false
+    (0..n).any(|i| fulfils(records, n, i, c))
 }
 
 fn fulfils(records: &[u16], n: u16, i: u16, c: Claim) -> bool
     ensures { result ≡ fulfils_at records.now n i c }
 {
-    if !makes(records, i, c) {
-        return false;
-    }
-    let thread = number_at(records, i, Record::THREAD);
-    follows(records, n, thread, c)
+    makes(records, i, c) && follows(records, n, number_at(records, i, Record::THREAD), c)
 }
 
 // Record i made a thread for the claim.
@@ -116,13 +83,7 @@ fn makes(records: &[u16], i: u16, c: Claim) -> bool
 fn follows(records: &[u16], n: u16, serial: u16, c: Claim) -> bool
     ensures { result ≡ follows_on records.now n serial c }
 {
-    let mut at = 0;
-    let mut i = 0;
-    while i < n {
-        at = follow(records, i, serial, c, at);
-        i += 1;
-    }
-    at == c.length
+    (0..n).fold(0, |at, i| follow(records, i, serial, c, at)) == c.length
 }
 
 // How far along the path the thread is after record i.
@@ -140,11 +101,8 @@ pub fn all_accepts(records: &[u16], n: u16) -> u32
     ensures { result ≡ accepts_on records.now n }
 {
     let mut sum = 0;
-    let mut i = 0;
-    while i < n {
-        let endings = number_at(records, i, Record::ENDINGS) as u32;
-        sum += endings;
-        i += 1;
+    for i in 0..n {
+        sum += u32::from(number_at(records, i, Record::ENDINGS));
     }
     sum
 }

@@ -9,28 +9,19 @@ use model::records::Claim;
 pub fn accepts_by(endings: u16, first: u16, second: u16, program: u8) -> bool
     ensures { result ≡ accepts_by endings first second program }
 {
-    if endings == 0 {
-        return false;
+    let p = u16::from(program);
+    match endings {
+        0 => false,
+        1 => first == p,
+        _ => first == p || second == p,
     }
-    let p = program as u16;
-    if first == p {
-        return true;
-    }
-    if endings == 1 {
-        return false;
-    }
-    second == p
 }
 
 // A reset (kind 1: a late launch) of the claim's machine.
 pub fn makes_by(op: u16, machine: u16, c: Claim) -> bool
     ensures { result ≡ makes_by op machine c }
 {
-    let making = making_op(c.kind);
-    if op != making {
-        return false;
-    }
-    machine == c.machine as u16
+    op == making_op(c.kind) && machine == u16::from(c.machine)
 }
 
 fn making_op(kind: u8) -> u16
@@ -43,18 +34,10 @@ fn making_op(kind: u8) -> u16
 pub fn follow_by(op: u16, mover: u16, program: u16, serial: u16, c: Claim, at: u8) -> u8
     ensures { result ≡ follow_by op mover program serial c at }
 {
-    if c.length <= at {
-        return at;
-    }
-    if op != 19 {
-        return at;
-    }
-    if mover != serial {
-        return at;
-    }
-    let next = path_at(c, at) as u16;
-    if program == next {
-        at % 255 + 1
+    if c.length <= at || op != 19 || mover != serial {
+        at
+    } else if program == u16::from(path_at(c, at)) {
+        at + 1
     } else {
         Claim::LEFT
     }
@@ -63,10 +46,5 @@ pub fn follow_by(op: u16, mover: u16, program: u16, serial: u16, c: Claim, at: u
 fn path_at(c: Claim, at: u8) -> u8
     ensures { result ≡ path_at c at }
 {
-    let path = c.path;
-    if at < Claim::PATH {
-        path[at as usize]
-    } else {
-        0
-    }
+    c.path.get(usize::from(at)).copied().unwrap_or(0)
 }

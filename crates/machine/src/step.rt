@@ -1,34 +1,26 @@
-// One step of any configuration: model and configuration are checked first (11). A refused step leaves table and
+// One step of any configuration, in place: model and configuration are checked first (11). A refused step leaves table and
 // configuration as they came.
+#![tactic(auto, unfolding(crate::specs::Step::step_checked))]
+
 ghost use Rattle.std.specs.Prelude.{◌≡◌};
 ghost use Rattle.terms.specs.Base.{held};
+ghost use Rattle.rules.specs.Step.{stepped_in};
 ghost use Rattle.machine.specs.Step.{step_checked};
 
 use audit::controls::sound_control;
 use audit::models::sound_model;
 use model::records::Model;
-use rules::inner::{Stepped, refused_step, try_step};
+use rules::event::Happening;
+use rules::inner::try_step;
 use state::control::Control;
+use state::refusal::Refusal;
 
 // A step for every model, table, configuration and code.
-pub fn step(t: &mut [u64; 512], m: Model, s: Control, code: u16) -> Stepped
-    ensures { held result t.new ≡ step_checked t.old m s code }
+pub fn step(t: &mut [u64; 512], m: &Model, s: &mut Control, code: u16) -> Result<Happening, Refusal>
+    ensures { held (stepped_in result s.new) t.new ≡ step_checked t.old m.now s.old code }
 {
-    if !sound_model(m) {
-        return refused_step(11, s);
+    if !sound_model(m) || !sound_control(m, t, s) {
+        return Err(Refusal::Unsound);
     }
-    if !sound_control(m, t, s) {
-        return refused_step(11, s);
-    }
-    let machines = m.machine_count;
-    try_step(
-        t,
-        s,
-        &m.actions,
-        &m.lengths,
-        &m.machines,
-        machines,
-        &m.locations,
-        code,
-    )
+    try_step(t, s, m, code)
 }

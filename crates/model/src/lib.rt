@@ -1,6 +1,6 @@
 // What a model file lists, as records.
 //
-//   records   Model and its records, each as one exact number, so that their arrays can be lent
+//   records   Model and its records, each as one exact number
 //   fields    which ops use loc, x and y, and where a location must be of one kind
 #![tactic(auto)]
 

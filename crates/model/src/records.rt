@@ -1,12 +1,13 @@
 // A model: programs, machines, locations, listed threads, the claim, and the terms that it lists. Every limit is a
 // constant of the record that it bounds.
+#![tactic(auto, using(crate::proofs::Places::bit_is, crate::proofs::Places::number_there, crate::proofs::Places::record_there), unfolding(crate::specs::Records::pack_action, crate::specs::Records::action_in, crate::specs::Records::pack_machine, crate::specs::Records::machine_in, crate::specs::Records::pack_location, crate::specs::Records::location_in, crate::specs::Records::pack_thread, crate::specs::Records::thread_in, crate::specs::Records::action_number, crate::specs::Records::action_at, crate::specs::Records::length_at, crate::specs::Records::machine_at, crate::specs::Records::location_at, crate::specs::Records::thread_at))]
+
 ghost use Rattle.std.specs.Prelude.{◌≡◌};
 ghost use Rattle.model.specs.Records.{pack_action, action_in, pack_machine, machine_in, pack_location, location_in, pack_thread, thread_in, action_number, action_at, length_at, machine_at, location_at, thread_at};
 
-use terms::line::bit;
-
-// A whole model. The two large arrays are lent to the inner functions; the records are packed numbers, so that they
-// can be lent too, and are read by action_at, machine_at, location_at and thread_at.
+// A whole model, lent by reference. Its records are packed numbers, read by action_at, machine_at, location_at and thread_at.
+// kept: numbers, since the theorems of proofs/Pack and soundness speak of them; ops and kinds too, since a model may hold any
+// number in their place; arrays with a count each, since memory is fixed
 #[derive(Clone, Copy)]
 pub struct Model {
     // 1 for the rules of document 01
@@ -100,15 +101,15 @@ impl Location {
 }
 
 // The records as numbers and back. A number made by a pack function is read back whole; of any other number the fields
-// are what stands in their places.
+// are what stands in their places. Kept as functions, no From: docs/PROMISES.md names each of them, and of one u32 three
+// records can be read, so that a call by its own name is the plainer one.
 pub fn pack_action(a: Action) -> u64
     ensures { result ≡ pack_action a }
 {
-    let op = a.op as u64;
-    let loc = a.loc as u64;
-    let x = a.x as u64;
-    let y = a.y as u64;
-    op * 281474976710656 + loc * 4294967296 + x * 65536 + y
+    u64::from(a.op) * 281474976710656
+        + u64::from(a.loc) * 4294967296
+        + u64::from(a.x) * 65536
+        + u64::from(a.y)
 }
 
 pub fn action_in(n: u64) -> Action
@@ -125,10 +126,7 @@ pub fn action_in(n: u64) -> Action
 pub fn pack_machine(m: Machine) -> u32
     ensures { result ≡ pack_machine m }
 {
-    let boot = m.boot as u32;
-    let launch = m.launch as u32;
-    let protected = bit(m.protected) as u32;
-    boot * 65536 + launch * 256 + protected
+    u32::from(m.boot) * 65536 + u32::from(m.launch) * 256 + u32::from(m.protected)
 }
 
 pub fn machine_in(n: u32) -> Machine
@@ -144,10 +142,7 @@ pub fn machine_in(n: u32) -> Machine
 pub fn pack_location(l: Location) -> u32
     ensures { result ≡ pack_location l }
 {
-    let machine = l.machine as u32;
-    let kind = l.kind as u32;
-    let value = l.value as u32;
-    machine * 16777216 + kind * 65536 + value
+    u32::from(l.machine) * 16777216 + u32::from(l.kind) * 65536 + u32::from(l.value)
 }
 
 pub fn location_in(n: u32) -> Location
@@ -163,10 +158,7 @@ pub fn location_in(n: u32) -> Location
 pub fn pack_thread(l: Listed) -> u32
     ensures { result ≡ pack_thread l }
 {
-    let agent = l.agent as u32;
-    let machine = l.machine as u32;
-    let program = l.program as u32;
-    agent * 65536 + machine * 256 + program
+    u32::from(l.agent) * 65536 + u32::from(l.machine) * 256 + u32::from(l.program)
 }
 
 pub fn thread_in(n: u32) -> Listed
@@ -183,8 +175,8 @@ pub fn thread_in(n: u32) -> Listed
 pub fn action_number(actions: &[u64; 512], program: u8, position: u8) -> u64
     ensures { result ≡ action_number actions.now program position }
 {
-    let i = program as usize * 16 + position as usize;
-    if i < 512 { actions[i] } else { 0 }
+    let i = usize::from(program) * 16 + usize::from(position);
+    actions.get(i).copied().unwrap_or(0)
 }
 
 // The record at a place, and the one of all zeros where there is none.
@@ -197,39 +189,23 @@ pub fn action_at(actions: &[u64; 512], program: u8, position: u8) -> Action
 pub fn length_at(lengths: &[u8; 32], program: u8) -> u8
     ensures { result ≡ length_at lengths.now program }
 {
-    let i = program as usize;
-    if i < 32 { lengths[i] } else { 0 }
+    lengths.get(usize::from(program)).copied().unwrap_or(0)
 }
 
 pub fn machine_at(machines: &[u32; 4], machine: u8) -> Machine
     ensures { result ≡ machine_at machines.now machine }
 {
-    let i = machine as usize;
-    if i < 4 {
-        machine_in(machines[i])
-    } else {
-        machine_in(0)
-    }
+    machine_in(machines.get(usize::from(machine)).copied().unwrap_or(0))
 }
 
 pub fn location_at(locations: &[u32; 32], loc: u16) -> Location
     ensures { result ≡ location_at locations.now loc }
 {
-    let i = loc as usize;
-    if i < 32 {
-        location_in(locations[i])
-    } else {
-        location_in(0)
-    }
+    location_in(locations.get(usize::from(loc)).copied().unwrap_or(0))
 }
 
 pub fn thread_at(threads: &[u32; 8], i: u8) -> Listed
     ensures { result ≡ thread_at threads.now i }
 {
-    let j = i as usize;
-    if j < 8 {
-        thread_in(threads[j])
-    } else {
-        thread_in(0)
-    }
+    thread_in(threads.get(usize::from(i)).copied().unwrap_or(0))
 }

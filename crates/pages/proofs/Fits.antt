@@ -63,17 +63,21 @@ closing_long w tries sized =
     let k = length-append (word_of w) (blank_and tries ++ (blank_and sized ++ (10 ∷ []))) in
     omega (arith, i, j, k, word_long w, blank_most tries, blank_most sized)
 
-refused_long : (n : ℕ) → length (refused_line n 0) ≤ 30
+refused_long : (n m : ℕ) → length (refused_line n m) ≤ 30
 unfolding refused_line
-refused_long n =
-    let i = length-append (blank_and 0) (10 ∷ []) in
-    let j = length-append (blank_and n) (blank_and 0 ++ (10 ∷ [])) in
-    let k = length-append (word_of Refused) (blank_and n ++ (blank_and 0 ++ (10 ∷ []))) in
-    omega (arith, i, j, k, word_long Refused, blank_most n, blank_most 0)
+refused_long n m =
+    let i = length-append (blank_and m) (10 ∷ []) in
+    let j = length-append (blank_and n) (blank_and m ++ (10 ∷ [])) in
+    let k = length-append (word_of Refused) (blank_and n ++ (blank_and m ++ (10 ∷ []))) in
+    omega (arith, i, j, k, word_long Refused, blank_most n, blank_most m)
+
+-- "only `refused`, number and line": what the buffer then opens with
+pub refused_whole : (n m next : ℕ) (l buf : List ℕ) → 30 ≤ length l → written next buf ≡ put_all (refused_line n m) (written 0 l) → take next buf ≡ refused_line n m
+refused_whole n m next l buf h e = rw (← e) at (text_whole (refused_line n m) l (omega (arith, refused_long n m)))
 
 pub last_long : (k : Kind) (tries sized : ℕ) → length (last_text k tries sized) ≤ 30
 unfolding last_text
 last_long K.Found tries sized = omega arith
 last_long K.Stop tries sized = closing_long Stop tries sized
 last_long K.End tries sized = closing_long End tries sized
-last_long (K.Refused n) tries sized = refused_long n
+last_long (K.Refused n) tries sized = refused_long n 0

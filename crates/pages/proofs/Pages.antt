@@ -23,7 +23,7 @@ use Rattle.search.specs.declared.answer.Listing.{Listing}
 use Rattle.pages.specs.ListText.{bad_line, bad_lines}
 use Rattle.pages.specs.ListPage.{stand_start, sum_of, goes_on, last_text, page_text, Paged, page_with, page_on}
 use Rattle.pages.specs.Listing.{pages_then, pages_from, list_printed, Whole, whole, whole_then, whole_text}
-use Rattle.pages.specs.declared.lister.Stand.{Stand}
+use Rattle.pages.specs.ListPage.{Stand}
 use Rattle.pages.proofs.Printed.{Short, page_shows, words_long}
 use Rattle.pages.proofs.Fits.{text_whole, lines_long, last_long}
 

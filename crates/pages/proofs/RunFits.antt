@@ -14,22 +14,19 @@ use Rattle.model.specs.declared.records.Model.{Model}
 use Rattle.state.specs.Control.{fresh_control}
 use Rattle.state.specs.declared.control.Control.{Control}
 use Rattle.rules.specs.Event.{number_at}
-use Rattle.rules.specs.Made.{Layout}
+use Rattle.rules.specs.Made.{Layout, layout_of}
 use Rattle.machine.specs.Judge.{first_break_on, accepts_on}
-use Rattle.law.specs.Rules.{layout_of}
 use Rattle.machine.specs.Recorded.{Left}
 use Rattle.machine.specs.Step.{is_sound}
 use Rattle.runs.specs.Run.{ran, Course, course, one_turn, steps_from, shorter, tried_of, steps_on, all_refused, untouched, run_on}
-use Rattle.runs.specs.declared.run.Outcome.{Outcome}
+use Rattle.runs.specs.Run.{Outcome}
 use Rattle.lines.specs.Line.{span, no_lf, cut_line, lines_of, joined}
-use Rattle.lines.specs.Field.{well_spelt, field_of, opens_with}
-use Rattle.lines.specs.Codes.{code_by, code_in, code_cut, next_code}
+use Rattle.lines.specs.Field as F
+use Rattle.lines.specs.Field.{Field, well_spelt, field_of, opens_with}
+use Rattle.lines.specs.Codes as C
+use Rattle.lines.specs.Codes.{Code, code_by, code_in, code_cut, next_code}
 use Rattle.lines.specs.Put.{word_of, blank_and}
-use Rattle.lines.specs.declared.field.Cut.TheVariants as L
-use Rattle.lines.specs.declared.field.Field.{Field}
-use Rattle.lines.specs.declared.field.Field.TheVariants as F
-use Rattle.lines.specs.declared.codes.Code.{Code}
-use Rattle.lines.specs.declared.codes.Code.TheVariants as C
+use Rattle.std.specs.Prelude.{Some, None}
 use Rattle.lines.proofs.Lines.{joined_lines}
 use Rattle.pages.specs.RunText.{serial_of, ok_line, no_line, answer_line, event_after, answers_text, done_line, code_then, codes_of, codes_read}
 use Rattle.pages.specs.RunPage.{run_text, run_page_on}
@@ -187,7 +184,7 @@ code_long [] next = omega arith
 code_long (b ∷ []) next = omega arith
 code_long (b ∷ t ∷ s) next = omega (arith, code_by_lem (opens_with (b ∷ t ∷ s) 82) (field_of s 65535) next (length s) (field_long s 65535))
 
-cut_long : (t : Bool) (n : ℕ) (s : List ℕ) → ltb n (length s) ≡ t → code_needs (code_cut (pick t (L.Line n) L.Open) s) ≤ length s
+cut_long : (t : Bool) (n : ℕ) (s : List ℕ) → ltb n (length s) ≡ t → code_needs (code_cut (pick t (Some n) None) s) ≤ length s
 unfolding code_needs
 cut_long true n s e = omega (arith, code_long (take n s) (n + 1), length-take n s, ltb-true n (length s) e)
 cut_long false n s e = omega arith

@@ -14,7 +14,7 @@ use Rattle.search.specs.declared.answer.Kind.{Kind}
 use Rattle.search.specs.declared.answer.Kind.TheVariants.{Found, Stop, End, Refused}
 use Rattle.search.proofs.Listings.{listing_spends}
 use Rattle.pages.specs.ListPage.{goes_on, Paged, paged, page_on}
-use Rattle.pages.specs.declared.lister.Stand.{Stand}
+use Rattle.pages.specs.ListPage.{Stand}
 
 pub found_goes : (k : Kind) → goes_on k ≡ true → k ≡ Found
 unfolding goes_on

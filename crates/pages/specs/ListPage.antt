@@ -12,12 +12,23 @@ use Rattle.search.specs.declared.answer.Listing.{Listing}
 use Rattle.lines.specs.Put.{Written, written, put_all, refused_line}
 use Rattle.lines.specs.declared.put.Word.TheVariants as W
 use Rattle.pages.specs.ListText.{schedules_text, closing_line}
-use Rattle.pages.specs.declared.lister.Stand.{Stand}
+use Rattle.pages.specs.declared.lister.Stand as L
 
 -- where a listing stands: the place, the budget left, the tries refused for size, whether there is another page, and how
 -- many bytes this one has
+pub record Stand : Type 0 where
+  pub place : Place
+  pub left : ℕ
+  pub sized : ℕ
+  pub going : Bool
+  pub bytes : ℕ
+
 abbrev pub stand : Place → ℕ → ℕ → Bool → ℕ → Stand
 stand p left sized going bytes = record { place = p; left = left; sized = sized; going = going; bytes = bytes }
+
+-- the same, of a page with so many bytes
+abbrev pub stand_in : L.Stand → ℕ → Stand
+stand_in s bytes = stand s.place s.left s.sized s.going bytes
 
 -- before the first page
 unfoldable pub stand_start : ℕ → Stand

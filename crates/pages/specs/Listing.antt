@@ -6,7 +6,7 @@ use Rattle.model.specs.declared.records.Model.{Model}
 use Rattle.search.specs.declared.answer.Kind.{Kind}
 use Rattle.pages.specs.ListText.{bad_lines}
 use Rattle.pages.specs.ListPage.{stand_start, last_text, Paged, page_on}
-use Rattle.pages.specs.declared.lister.Stand.{Stand}
+use Rattle.pages.specs.ListPage.{Stand}
 
 abbrev pub pages_then : Paged → (Paged → List ℕ) → List ℕ
 pages_then q rest = take q.out.bytes q.page ++ pick q.out.going (rest q) []

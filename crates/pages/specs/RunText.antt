@@ -4,10 +4,9 @@ use Rattle.std.specs.Prelude.{ℕ, zero, suc, ◌+◌, ◌%◌, List, [], ◌∷
 use Rattle.terms.specs.Base.{pick, Held, held}
 use Rattle.rules.specs.Event.{number_at}
 use Rattle.lines.specs.Line.{lines_of}
-use Rattle.lines.specs.Codes.{next_code}
+use Rattle.lines.specs.Codes as C
+use Rattle.lines.specs.Codes.{Code, next_code}
 use Rattle.lines.specs.Put.{word_of, blank_and}
-use Rattle.lines.specs.declared.codes.Code.{Code}
-use Rattle.lines.specs.declared.codes.Code.TheVariants as C
 use Rattle.lines.specs.declared.put.Word.TheVariants.{Ok, No, Done}
 
 -- number 8 of a record is the thread made, number 1 the mover's or sender's serial

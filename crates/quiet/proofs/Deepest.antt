@@ -1,32 +1,31 @@
--- The deepest of the terms listed: one turn of its loop, and that no term looked at is deeper.
-use Prim.Native.Nat.{ℕ, zero, suc, ◌+◌, ◌-◌, ◌<◌, ◌≤◌}
+-- The deepest of the terms listed: by which fold they are found, and that no term looked at is deeper.
+use Prim.Native.Nat.{ℕ, zero, suc, ◌+◌, ◌-◌, ◌<◌, ◌≤◌, max}
 use mathlib.Core.Bool.{Bool, true, false}
 use mathlib.Core.List.{List}
 use mathlib.Core.Path.{◌≡◌, refl, ap}
-use native.Mathlib.Numerals.{sub-one}
-use native.Mathlib.Nat.{sub-add-eq, sub-eq-zero_of_le}
 use native.Mathlib.Omega.{arith}
 use lib.Dec.{ltb, eqb}
 use borrow.Author.Tests.{ltb-true, ltb-false, eqb-true, eqb-false}
+use Rattle.std.specs.List.{fold, range_with_len}
 use Rattle.terms.specs.Base.{pick, larger_of}
 use Rattle.terms.specs.Line.{line_at, depth_in, depth_at}
 use Rattle.terms.specs.Table.{used_of}
 use Rattle.quiet.specs.Quiet.{deepest_in, deepest}
 
--- one term
-deeper_step : (k : ℕ) (l : List ℕ) (i d : ℕ) → 0 < k
-    → deepest_in k l i d ≡ deepest_in (k - 1) l (i + 1) (larger_of d (depth_at l i))
-unfolding deepest_in
-deeper_step zero l i d h = absurd (omega arith)
-deeper_step (suc k) l i d h = rw sub-one
+-- the larger of two
+max_larger : (m n : ℕ) → max m n ≡ larger_of m n
+unfolding larger_of
+max_larger m n = by (ltb m n) refl
+  where
+    by : (b : Bool) → ltb m n ≡ b → max m n ≡ pick b n m
+    by true e = omega (arith, ltb-true m n e)
+    by false e = omega (arith, ltb-false m n e)
 
-pub deepest_more : (n : ℕ) (l : List ℕ) (i d : ℕ) → i < n
-    → deepest_in (n - i) l i d ≡ deepest_in (n - (i + 1)) l (i + 1) (larger_of d (depth_at l i))
-deepest_more n l i d h = rw (sub-add-eq, deeper_step (n - i) l i d (omega arith))
-
-pub deepest_end : (n : ℕ) (l : List ℕ) (i d : ℕ) → n ≤ i → deepest_in (n - i) l i d ≡ d
+-- std's fold over a range
+pub deepest_of : (k : ℕ) (l : List ℕ) (i d : ℕ) → fold (λ d i. max d (depth_at l i)) d (range_with_len i k) ≡ deepest_in k l i d
 unfolding deepest_in
-deepest_end n l i d h = rw sub-eq-zero_of_le
+deepest_of zero l i d = refl
+deepest_of (suc k) l i d = rw (← (max_larger d (depth_at l i))) (deepest_of k l (i + 1) (max d (depth_at l i)))
 
 -- the deeper of two is neither's less
 deeper_first : (m n : ℕ) → m ≤ larger_of m n

@@ -17,12 +17,12 @@ use Rattle.rules.specs.Happened.{happened_on}
 use Rattle.rules.specs.Step.{refused_step, go_on, step_on}
 use Rattle.rules.specs.declared.event.Happening.{Happening}
 use Rattle.rules.specs.declared.work.Labels.{Labels}
-use Rattle.rules.specs.declared.work.Worked.{Worked}
-use Rattle.rules.specs.declared.work.Worked.TheVariants as K
+use Rattle.rules.specs.Worked.{Worked}
+use Rattle.rules.specs.Worked as K
 use Rattle.walk.specs.Trail.{mark_of, plain}
 use Rattle.audit.specs.Sound.{SoundModel}
 use Rattle.audit.specs.Whole.{Arrays, SoundConfig}
-use Rattle.law.specs.Rules.{layout_of}
+use Rattle.rules.specs.Made.{layout_of}
 use Rattle.law.specs.Machines.{LabelsConf, refused_as, tried_labels}
 use Rattle.law.specs.Turned.{turned_by}
 use Rattle.machine.specs.Claim.{breaks_claim}

@@ -34,7 +34,8 @@ use Rattle.audit.specs.Whole.{Arrays, SoundConfig}
 use Rattle.audit.proofs.Whole.{control_test}
 use Rattle.law.specs.Out.{Out}
 use Rattle.law.specs.Act.{result}
-use Rattle.law.specs.Rules.{operand, layout_of}
+use Rattle.rules.specs.Made.{layout_of}
+use Rattle.law.specs.Rules.{operand}
 use Rattle.law.specs.Meant.{Sized, meant}
 use Rattle.law.specs.Turned.{turned_by, unfit, yielded, term_reasons, act_reasons, work_reasons, step_reasons}
 use Rattle.law.proofs.Turned.{step_turned, turned_same}

@@ -2,6 +2,7 @@
 ghost use Rattle.std.specs.Prelude.{◌≡◌};
 ghost use Rattle.quiet.specs.Quiet.{stands_in, nobody_stands};
 
+use model::records::Model;
 use state::moves::is_last;
 use state::slot::slot_in;
 
@@ -14,24 +15,11 @@ fn stands(lengths: &[u8; 32], program: u8, n: u64) -> bool
         return false;
     }
     let q = slot_in(n);
-    if !q.live {
-        return false;
-    }
-    if q.program != program {
-        return false;
-    }
-    is_last(lengths, q)
+    q.live && q.program == program && is_last(lengths, q)
 }
 
-pub fn nobody_stands<'a>(slots: &'a [u64; 12], lengths: &'a [u8; 32], program: u8) -> bool
-    ensures { result ≡ nobody_stands slots.now lengths.now program }
+pub fn nobody_stands(slots: &[u64; 12], m: &Model, program: u8) -> bool
+    ensures { result ≡ nobody_stands slots.now m.now.lengths program }
 {
-    let mut i = 0;
-    while i < 12 {
-        if stands(lengths, program, slots[i]) {
-            return false;
-        }
-        i += 1;
-    }
-    true
+    !slots.iter().any(|n| stands(&m.lengths, program, *n))
 }

@@ -5,6 +5,7 @@ ghost use Rattle.std.specs.Prelude.{◌≡◌};
 ghost use Rattle.quiet.specs.Quiet.{calm, shallow};
 
 use crate::ends::nobody_stands;
+use model::records::Model;
 use terms::term::Term;
 
 // The outline of a model: the claim's program, how many terms are listed, and how deep the deepest of them is.
@@ -17,19 +18,15 @@ pub struct Outline {
 
 // Nobody stands before the last action, and a step finds room: it makes at most one term for each that is listed, and its
 // result.
-pub fn calm<'a>(slots: &'a [u64; 12], lengths: &'a [u8; 32], count: u16, outline: Outline) -> bool
-    ensures { result ≡ calm slots.now lengths.now count outline }
+pub fn calm(slots: &[u64; 12], m: &Model, count: u16, outline: Outline) -> bool
+    ensures { result ≡ calm slots.now m.now.lengths count outline }
 {
-    let terms = count as u32 + outline.count as u32;
-    if 511 < terms {
-        return false;
-    }
-    nobody_stands(slots, lengths, outline.program)
+    u32::from(count) + u32::from(outline.count) <= 511 && nobody_stands(slots, m, outline.program)
 }
 
 // The deepest term put for every variable of the deepest listed one still leaves a result within 16.
 pub fn shallow(deep: u8, outline: Outline) -> bool
     ensures { result ≡ shallow deep outline }
 {
-    deep as u16 + outline.deep as u16 <= Term::DEPTH
+    u16::from(deep) + u16::from(outline.deep) <= Term::DEPTH
 }

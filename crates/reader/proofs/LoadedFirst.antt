@@ -11,15 +11,14 @@ use Rattle.terms.specs.Base.{pick}
 use Rattle.terms.specs.Table.{fresh_table}
 use Rattle.lines.specs.Base.{byte_at}
 use Rattle.lines.specs.Line.{cut_line, lines_of}
-use Rattle.lines.specs.declared.field.Cut.{Cut}
-use Rattle.lines.specs.declared.field.Cut.TheVariants.{Line, Open}
+use Rattle.std.specs.Prelude.{Option, Some, None}
 use Rattle.reader.specs.Numbers.{fields_of}
 use Rattle.reader.specs.Drafts.{fresh_draft, lined}
 use Rattle.reader.specs.FirstReading.{Kept, kept, by_letter, one_line, cut_by, next_line, read_answer, whole_read, go_on, read_from, first_reading}
-use Rattle.reader.specs.declared.fields.Fields.{Fields}
+use Rattle.reader.specs.Numbers.{Fields}
 use Rattle.reader.specs.declared.draft.Draft.{Draft}
-use Rattle.reader.specs.declared.draft.Lined.{Lined}
-use Rattle.reader.specs.declared.first.Read.{Read}
+use Rattle.reader.specs.Drafts.{Lined}
+use Rattle.reader.specs.FirstReading.{Read}
 use Rattle.reader.proofs.LoadedFacts.{Drafted}
 use Rattle.reader.proofs.LoadedNumbers.{Numbers, line_numbers}
 use Rattle.reader.proofs.LoadedDrafts.{fresh_drafted}
@@ -54,9 +53,9 @@ module _ {l acts : List ℕ} {d : Draft} (D : Drafted l acts d) where
   unfolding one_line
   line_good line = letter_good (byte_at line 0) (fields_of line) (line_numbers line)
 
-  cut_good : (c : Cut) (s : List ℕ) → Good (cut_by c l acts d s)
-  cut_good (Line n) s = line_good (take n s)
-  cut_good Open s = refused l acts d
+  cut_good : (c : Option ℕ) (s : List ℕ) → Good (cut_by c l acts d s)
+  cut_good (Some n) s = line_good (take n s)
+  cut_good None s = refused l acts d
 
   next_good : (s : List ℕ) → Good (next_line l acts d s)
   unfolding next_line

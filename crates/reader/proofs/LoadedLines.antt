@@ -22,9 +22,9 @@ use Rattle.reader.specs.MLine.{machine_order21, machine_limits22, machine_names2
 use Rattle.reader.specs.LLine.{location_order21, location_limits22, location_names23, location_kind25, location_refusal, location_of, location_entry, location_line}
 use Rattle.reader.specs.TLine.{thread_names23, thread_refusal, thread_of, thread_entry, thread_line}
 use Rattle.reader.specs.CLine.{claim_form20, path_names23, claim_names23, claim_refusal, claim_of, claim_line}
-use Rattle.reader.specs.declared.fields.Fields.{Fields}
+use Rattle.reader.specs.Numbers.{Fields}
 use Rattle.reader.specs.declared.draft.Draft.{Draft}
-use Rattle.reader.specs.declared.draft.Lined.{Lined}
+use Rattle.reader.specs.Drafts.{Lined}
 use Rattle.reader.proofs.LoadedFacts.{MachineNumber, LocationNumber, ThreadNumber, ClaimNamed, Drafted}
 use Rattle.model.proofs.Tests.{not_both, neither}
 use Rattle.reader.proofs.LoadedTests.{passes, entered, follows_in, up_to_255_le, up_to_255_small}

@@ -11,11 +11,9 @@ use borrow.Author.Tests.{ltb-true, ltb-false, eqb-true, eqb-false}
 use Rattle.terms.specs.Base.{pick}
 use Rattle.lines.specs.Base.{byte_at}
 use Rattle.lines.specs.Line.{span}
-use Rattle.lines.specs.Field.{is_digit, well_spelt, number_of, end_by, field_by, field_of}
-use Rattle.lines.specs.declared.field.Field.{Field}
-use Rattle.lines.specs.declared.field.Field.TheVariants.{More, Last, Bad}
+use Rattle.lines.specs.Field.{Field, More, Last, Bad, is_digit, well_spelt, number_of, end_by, field_by, field_of}
 use Rattle.reader.specs.Numbers.{fields, no_fields, bad_fields, fields_with, fields_by, fields_in, fields_of, num}
-use Rattle.reader.specs.declared.fields.Fields.{Fields}
+use Rattle.reader.specs.Numbers.{Fields}
 use Rattle.reader.proofs.LoadedLists.{zero_at}
 
 pub record Numbers (f : Fields) : Type 0 where

@@ -18,7 +18,7 @@ use Rattle.reader.specs.ALine.{location_past}
 use Rattle.reader.specs.SecondReading.{refusal, first_bad_code, line_of_label, program_twice24, action_second}
 use Rattle.reader.specs.SecondReading.{within, within_from, program_reading, programs_from, programs_reading, second_reading}
 use Rattle.reader.specs.declared.draft.Draft.{Draft}
-use Rattle.reader.specs.declared.second.Within.{Within}
+use Rattle.reader.specs.SecondReading.{Within}
 use Rattle.model.proofs.Tests.{not_both, pick_yes}
 use Rattle.reader.proofs.LoadedTests.{passes}
 

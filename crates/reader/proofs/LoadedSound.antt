@@ -26,9 +26,9 @@ use Rattle.reader.specs.FirstReading.{Kept, first_reading}
 use Rattle.reader.specs.SecondReading.{second_reading}
 use Rattle.reader.specs.Load.{model_of, loaded, refused_with, load_second, load_first, load_of}
 use Rattle.reader.specs.declared.draft.Draft.{Draft}
-use Rattle.reader.specs.declared.first.Read.{Read}
-use Rattle.reader.specs.declared.second.Refusal.{Refusal}
-use Rattle.reader.specs.declared.Loaded.{Loaded}
+use Rattle.reader.specs.FirstReading.{Read}
+use Rattle.reader.specs.SecondReading.{Second}
+use Rattle.reader.specs.Load.{Loaded}
 use Rattle.reader.proofs.LoadedFacts.{Operand, Drafted}
 use Rattle.reader.proofs.LoadedFirst.{Whole, first_ends}
 use Rattle.reader.proofs.LoadedSecond.{Named, second_named}
@@ -150,7 +150,7 @@ pub record Loads (r : Loaded) : Type 0 where
   pub sound : SoundModel r.model
   pub long : length r.model.lines ≡ 512
 
-second_loads : (s : Refusal) (l acts : List ℕ) (d : Draft) → Drafted l acts d → d.group ≡ 7 → (s.number ≡ 0 → Named l acts d)
+second_loads : (s : Second) (l acts : List ℕ) (d : Draft) → Drafted l acts d → d.group ≡ 7 → (s.number ≡ 0 → Named l acts d)
     → (load_second s l acts d).number ≡ 0 → Loads (load_second s l acts d)
 unfolding refused_with
 second_loads s l acts d D e N h = by (eqb s.number 0) refl h

@@ -13,7 +13,7 @@ use Rattle.terms.specs.Table.{add_to}
 use Rattle.terms.specs.Meaning.{means}
 use Rattle.terms.specs.Promise.{Fit, Adds, deep, listed, new, full}
 use Rattle.terms.specs.declared.term.Term.{Term}
-use Rattle.terms.specs.declared.table.Added.{Added}
+use Rattle.terms.specs.Outcome.{Added}
 use Rattle.terms.proofs.Add.{adds}
 use Rattle.model.specs.Records.{pack_action, length_at}
 use Rattle.model.specs.Fields.{closing}
@@ -27,9 +27,9 @@ use Rattle.reader.specs.ELine.{term_of, term_order21, term_limits22, term_names2
 use Rattle.reader.specs.ELine.{term_twice24, term_kind25, term_refusal, term_counted, as_entered, term_entry, term_line}
 use Rattle.reader.specs.ALine.{action_of, action_order21, action_limits22, location_past, label_bad, action_names23}
 use Rattle.reader.specs.ALine.{action_refusal, action_counted, action_entry, action_line}
-use Rattle.reader.specs.declared.fields.Fields.{Fields}
+use Rattle.reader.specs.Numbers.{Fields}
 use Rattle.reader.specs.declared.draft.Draft.{Draft}
-use Rattle.reader.specs.declared.draft.Lined.{Lined}
+use Rattle.reader.specs.Drafts.{Lined}
 use Rattle.reader.proofs.LoadedFacts.{Terms, Operand, Drafted}
 use Rattle.model.proofs.Tests.{neither}
 use Rattle.reader.proofs.LoadedTests.{passes, judged, follows_in, up_to_255_small}

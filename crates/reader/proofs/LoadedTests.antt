@@ -10,7 +10,7 @@ use Rattle.terms.specs.Base.{pick, Held, held}
 use Rattle.reader.specs.Numbers.{up_to255}
 use Rattle.reader.specs.Drafts.{lined, unless_refused, follows_group}
 use Rattle.reader.specs.declared.draft.Draft.{Draft}
-use Rattle.reader.specs.declared.draft.Lined.{Lined}
+use Rattle.reader.specs.Drafts.{Lined}
 
 -- a rule that is not broken, and the rules after it
 pub passes : (b : Bool) (n m : ℕ) → ltb 0 n ≡ true → pick b n m ≡ 0 → (b ≡ false) × (m ≡ 0)

@@ -2,15 +2,21 @@
 use Prim.Native.Nat.{ℕ}
 use mathlib.Core.Bool.{Bool, true, false}
 use mathlib.Core.List.{List}
-use mathlib.Core.Path.{◌≡◌, refl, sym, ◌∙◌}
+use mathlib.Core.Path.{◌≡◌, refl, sym, ap, ◌∙◌}
+use native.Mathlib.Omega.{arith}
+use Rattle.std.specs.Prelude.{Result, Ok, Err}
 use lib.Dec.{eqb}
 use Rattle.terms.specs.Base.{pick}
 use Rattle.model.specs.declared.records.Model.{Model}
 use Rattle.reader.specs.FirstReading.{Kept, first_reading}
 use Rattle.reader.specs.SecondReading.{second_reading}
-use Rattle.reader.specs.Load.{no_model, model_of, loaded, refused_with, load_first, load_of}
-use Rattle.reader.specs.declared.first.Read.{Read}
-use Rattle.reader.specs.declared.Loaded.{Loaded}
+use Rattle.reader.specs.Load.{no_model, model_of, loaded, refused_with, loaded_in, load_first, load_of}
+use Rattle.reader.specs.FirstReading.{Read}
+use Rattle.reader.specs.Load.{Loaded}
+use Rattle.reader.specs.Refused.{number_of}
+use Rattle.reader.specs.declared.refusal.Fault.{Fault}
+use Rattle.reader.specs.declared.refusal.Refusal.{Refusal}
+use Rattle.reader.specs.declared.refusal.Refusal.TheVariants.{Form, Order, Limit, Name, Twice, Kind, Length}
 
 -- zero where refused
 abbrev ZeroIfRefused : Loaded → Type 0
@@ -43,3 +49,46 @@ refused_zero file = first_zero (first_reading file _ _)
 -- no second outcome: two answers to one file are equal
 pub one_reading : (file : List ℕ) (r s : Loaded) → r ≡ load_of file → s ≡ load_of file → r ≡ s
 one_reading file r s p q = p ∙ sym q
+
+-- a number says which refusal it is
+refusal_of : ℕ → Refusal
+refusal_of n = pick (eqb n 20) Form (pick (eqb n 21) Order (pick (eqb n 22) Limit (pick (eqb n 23) Name (pick (eqb n 24) Twice (pick (eqb n 25) Kind Length)))))
+
+read_back : (r : Refusal) → refusal_of (number_of r) ≡ r
+unfolding refusal_of
+read_back Form = refl
+read_back Order = refl
+read_back Limit = refl
+read_back Name = refl
+read_back Twice = refl
+read_back Kind = refl
+read_back Length = refl
+
+pub one_refusal : (r s : Refusal) → number_of r ≡ number_of s → r ≡ s
+one_refusal r s e = sym (read_back r) ∙ ap refusal_of e ∙ read_back s
+
+no_refusal : (r : Refusal) → number_of r ≡ 0 → ⊥
+no_refusal Form e = absurd (omega arith)
+no_refusal Order e = absurd (omega arith)
+no_refusal Limit e = absurd (omega arith)
+no_refusal Name e = absurd (omega arith)
+no_refusal Twice e = absurd (omega arith)
+no_refusal Kind e = absurd (omega arith)
+no_refusal Length e = absurd (omega arith)
+
+abbrev fault : Refusal → ℕ → Fault
+fault r line = record { refusal = r; line = line }
+
+one_fault : (f g : Fault) → f.refusal ≡ g.refusal → f.line ≡ g.line → f ≡ g
+one_fault f g p q = ap (λ (r : Refusal). fault r f.line) p ∙ ap (fault g.refusal) q
+
+same_loaded : (x y : Result Model Fault) → loaded_in x ≡ loaded_in y → x ≡ y
+unfolding refused_with
+same_loaded (Ok m) (Ok n) e = ap Ok (ap (λ (l : Loaded). l.model) e)
+same_loaded (Ok m) (Err g) e = absurd (no_refusal g.refusal (sym (ap (λ (l : Loaded). l.number) e)))
+same_loaded (Err f) (Ok n) e = absurd (no_refusal f.refusal (ap (λ (l : Loaded). l.number) e))
+same_loaded (Err f) (Err g) e = ap Err (one_fault f g (one_refusal f.refusal g.refusal (ap (λ (l : Loaded). l.number) e)) (ap (λ (l : Loaded). l.line) e))
+
+-- so two answers of the code to one file are equal too
+pub one_load : (file : List ℕ) (x y : Result Model Fault) → loaded_in x ≡ load_of file → loaded_in y ≡ load_of file → x ≡ y
+one_load file x y p q = same_loaded x y (p ∙ sym q)

@@ -7,9 +7,9 @@ use Rattle.model.specs.declared.records.Action.{Action}
 use Rattle.audit.specs.Tops.{top_at}
 use Rattle.reader.specs.Numbers.{are_fields, num, up_to255}
 use Rattle.reader.specs.Drafts.{lined, follows_group, with_action}
-use Rattle.reader.specs.declared.fields.Fields.{Fields}
+use Rattle.reader.specs.Numbers.{Fields}
 use Rattle.reader.specs.declared.draft.Draft.{Draft}
-use Rattle.reader.specs.declared.draft.Lined.{Lined}
+use Rattle.reader.specs.Drafts.{Lined}
 
 unfoldable pub action_of : Fields → Action
 action_of f = action (up_to255 (num f 1)) (num f 2) (num f 3) (num f 4)

@@ -5,9 +5,9 @@ use Rattle.model.specs.Fields.{either}
 use Rattle.model.specs.declared.records.Claim.{Claim}
 use Rattle.reader.specs.Numbers.{num, up_to255}
 use Rattle.reader.specs.Drafts.{lined, unless_refused, follows_group, with_claim}
-use Rattle.reader.specs.declared.fields.Fields.{Fields}
+use Rattle.reader.specs.Numbers.{Fields}
 use Rattle.reader.specs.declared.draft.Draft.{Draft}
-use Rattle.reader.specs.declared.draft.Lined.{Lined}
+use Rattle.reader.specs.Drafts.{Lined}
 
 -- three numbers, then the path
 unfoldable pub claim_form20 : Fields → Bool

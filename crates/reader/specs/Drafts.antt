@@ -1,9 +1,10 @@
 -- What the lines read so far have told, and a line's answer.
-use Rattle.std.specs.Prelude.{ℕ, ◌+◌, Bool, false, set, replicate, eqb, ltb, leb}
+use Rattle.std.specs.Prelude.{ℕ, ◌+◌, Bool, false, set, replicate, eqb, ltb, leb, Result, Ok, Err}
 use Rattle.terms.specs.Base.{pick}
 use Rattle.model.specs.declared.records.Claim.{Claim}
 use Rattle.reader.specs.declared.draft.Draft.{Draft}
-use Rattle.reader.specs.declared.draft.Lined.{Lined}
+use Rattle.reader.specs.declared.refusal.Refusal.{Refusal}
+use Rattle.reader.specs.Refused.{number_of}
 
 unfoldable pub no_claim : Claim
 no_claim = record { kind = 0; program = 0; machine = 0; path = replicate 4 0; length = 0 }
@@ -27,9 +28,19 @@ fresh_draft = record {
   claim = no_claim;
 }
 
--- a line's answer: 0, or the number of its refusal, and the draft after it; a refused line leaves the draft as it came
+-- a line's answer: 0, or the number of its refusal, and the draft after it
+pub record Lined : Type 0 where
+  pub number : ℕ
+  pub draft : Draft
+
+-- a refused line leaves the draft as it came
 abbrev pub lined : ℕ → Draft → Lined
 lined n d = record { number = n; draft = d }
+
+-- what the code's answer says, beside the draft as it is left
+abbrev pub lined_in : {A : Type 0} → Result A Refusal → Draft → Lined
+lined_in (Ok a) d = lined 0 d
+lined_in (Err r) d = lined (number_of r) d
 
 -- the rules' answer n, 0 for none broken, decides whether a line is entered
 abbrev pub unless_refused : ℕ → Draft → Lined → Lined

@@ -1,23 +1,19 @@
 -- "E label kind a b (labels from 3 rising)": one more term of the table.
-use Rattle.std.specs.Prelude.{ℕ, Bool, true, false, not, List, eqb, ltb, leb}
+use Rattle.std.specs.Prelude.{ℕ, Bool, true, false, not, List, eqb, ltb, leb, Option, Some, None}
 use Rattle.terms.specs.Base.{pick, Held, held}
 use Rattle.terms.specs.Term.{term, in_limits, parts_below}
 use Rattle.terms.specs.Grade.{grade_of}
 use Rattle.terms.specs.Table.{find_term, add_to}
 use Rattle.terms.specs.declared.term.Term.{Term}
-use Rattle.terms.specs.declared.table.Added.{Added}
-use Rattle.terms.specs.declared.table.Outcome.{Outcome}
-use Rattle.terms.specs.declared.table.Outcome.TheVariants.{Listed, New, Deep, Full}
-use Rattle.terms.specs.declared.table.Found.{Found}
-use Rattle.terms.specs.declared.table.Found.TheVariants.{At, Nothing}
+use Rattle.terms.specs.Outcome.{Added, Outcome, Listed, New, Deep, Full}
 use Rattle.model.specs.Fields.{either}
 use Rattle.audit.specs.Models.{names_program}
 use Rattle.audit.specs.Tops.{top_of}
 use Rattle.reader.specs.Numbers.{are_fields, num, up_to255}
 use Rattle.reader.specs.Drafts.{lined, follows_group, with_term}
-use Rattle.reader.specs.declared.fields.Fields.{Fields}
+use Rattle.reader.specs.Numbers.{Fields}
 use Rattle.reader.specs.declared.draft.Draft.{Draft}
-use Rattle.reader.specs.declared.draft.Lined.{Lined}
+use Rattle.reader.specs.Drafts.{Lined}
 
 unfoldable pub term_of : Fields → Term
 term_of f = term (up_to255 (num f 1)) (num f 2) (num f 3)
@@ -34,9 +30,9 @@ term_limits22 l label x = either (leb 512 label) (either (not (in_limits x)) (lt
 unfoldable pub term_names23 : ℕ → Term → Bool
 term_names23 label x = either (not (parts_below x label)) (not (names_program x 32))
 
-abbrev pub is_at : Found → Bool
-is_at (At i) = true
-is_at Nothing = false
+abbrev pub is_at : Option ℕ → Bool
+is_at (Some i) = true
+is_at None = false
 
 -- "24 a term .. twice"
 unfoldable pub term_twice24 : List ℕ → ℕ → Term → Bool

@@ -7,9 +7,9 @@ use Rattle.model.specs.Fields.{either, is_register}
 use Rattle.model.specs.declared.records.Location.{Location}
 use Rattle.reader.specs.Numbers.{are_fields, num, up_to255}
 use Rattle.reader.specs.Drafts.{lined, unless_refused, follows_group, with_location}
-use Rattle.reader.specs.declared.fields.Fields.{Fields}
+use Rattle.reader.specs.Numbers.{Fields}
 use Rattle.reader.specs.declared.draft.Draft.{Draft}
-use Rattle.reader.specs.declared.draft.Lined.{Lined}
+use Rattle.reader.specs.Drafts.{Lined}
 
 -- after M and L lines alone; "M and L number from 0"
 unfoldable pub location_order21 : ℕ → ℕ → ℕ → Bool

@@ -1,15 +1,14 @@
 -- Both readings: the model of a file, or "A refusal gives number and line and leaves all lent tables zero".
-use Rattle.std.specs.Prelude.{ℕ, List, replicate, eqb}
+use Rattle.std.specs.Prelude.{ℕ, List, replicate, eqb, Result, Ok, Err}
 use Rattle.terms.specs.Base.{pick}
 use Rattle.terms.specs.Table.{fresh_table}
 use Rattle.model.specs.declared.records.Model.{Model}
 use Rattle.reader.specs.Drafts.{no_claim}
-use Rattle.reader.specs.FirstReading.{Kept, first_reading}
-use Rattle.reader.specs.SecondReading.{second_reading}
+use Rattle.reader.specs.FirstReading.{Read, Kept, first_reading}
+use Rattle.reader.specs.SecondReading.{Second, second_reading}
 use Rattle.reader.specs.declared.draft.Draft.{Draft}
-use Rattle.reader.specs.declared.first.Read.{Read}
-use Rattle.reader.specs.declared.second.Refusal.{Refusal}
-use Rattle.reader.specs.declared.Loaded.{Loaded}
+use Rattle.reader.specs.declared.refusal.Fault.{Fault}
+use Rattle.reader.specs.Refused.{number_of}
 
 -- all zero
 unfoldable pub no_model : Model
@@ -47,14 +46,25 @@ model_of l acts d = record {
   claim = d.claim;
 }
 
+-- the outcome of a file: number 0 and a model, or a refusal with its line
+pub record Loaded : Type 0 where
+  pub number : ℕ
+  pub line : ℕ
+  pub model : Model
+
 abbrev pub loaded : ℕ → ℕ → Model → Loaded
 loaded n line m = record { number = n; line = line; model = m }
 
 unfoldable pub refused_with : ℕ → ℕ → Loaded
 refused_with n line = loaded n line no_model
 
+-- what the code's answer says: where a file is refused it hands out no model at all
+abbrev pub loaded_in : Result Model Fault → Loaded
+loaded_in (Ok m) = loaded 0 0 m
+loaded_in (Err f) = refused_with (number_of f.refusal) f.line
+
 -- once the second reading is known
-abbrev pub load_second : Refusal → List ℕ → List ℕ → Draft → Loaded
+abbrev pub load_second : Second → List ℕ → List ℕ → Draft → Loaded
 load_second s l acts d = pick (eqb s.number 0) (loaded 0 0 (model_of l acts d)) (refused_with s.number s.line)
 
 -- once the first reading is known

@@ -6,9 +6,9 @@ use Rattle.model.specs.Fields.{either}
 use Rattle.model.specs.declared.records.Machine.{Machine}
 use Rattle.reader.specs.Numbers.{are_fields, num, up_to255}
 use Rattle.reader.specs.Drafts.{lined, unless_refused, follows_group, with_machine}
-use Rattle.reader.specs.declared.fields.Fields.{Fields}
+use Rattle.reader.specs.Numbers.{Fields}
 use Rattle.reader.specs.declared.draft.Draft.{Draft}
-use Rattle.reader.specs.declared.draft.Lined.{Lined}
+use Rattle.reader.specs.Drafts.{Lined}
 
 -- after A and M lines alone; "M and L number from 0"
 unfoldable pub machine_order21 : ℕ → ℕ → ℕ → Bool

@@ -1,11 +1,15 @@
 -- The numbers of one line: "fields parted by one tab, decimals up to 65,535 with no needless zero (else 20)". A tab is byte 9.
-use Rattle.std.specs.Prelude.{ℕ, zero, suc, ◌+◌, Bool, true, false, List, get_or, set, replicate, drop, eqb, ltb}
+use Rattle.std.specs.Prelude.{ℕ, zero, suc, ◌+◌, Bool, true, false, List, get_or, set, replicate, drop, eqb, ltb, Option, Some, None}
 use Rattle.terms.specs.Base.{pick, also}
 use Rattle.lines.specs.Base.{byte_at}
-use Rattle.lines.specs.Field.{field_of}
-use Rattle.lines.specs.declared.field.Field.{Field}
-use Rattle.lines.specs.declared.field.Field.TheVariants.{More, Last, Bad}
-use Rattle.reader.specs.declared.fields.Fields.{Fields}
+use Rattle.lines.specs.Field.{Field, More, Last, Bad, field_of}
+use Rattle.reader.specs.declared.fields.Fields.{Fields as Given}
+
+-- the places past the count are 0; a line of bad form has no good numbers
+pub record Fields : Type 0 where
+  pub good : Bool
+  pub count : ℕ
+  pub values : List ℕ
 
 abbrev pub fields : Bool → ℕ → List ℕ → Fields
 fields good n vs = record { good = good; count = n; values = vs }
@@ -47,3 +51,11 @@ num f i = get_or f.values i 0
 -- where only the numbers below 255 have a meaning, 255 stands for every larger one
 unfoldable pub up_to255 : ℕ → ℕ
 up_to255 v = pick (ltb v 255) v 255
+
+-- the code has numbers for a line of good form alone
+abbrev pub good : Given → Fields
+good f = fields true f.count f.values
+
+abbrev pub told : Option Given → Fields
+told (Some f) = good f
+told None = bad_fields

@@ -6,9 +6,9 @@ use Rattle.model.specs.Fields.{either}
 use Rattle.model.specs.declared.records.Listed.{Listed}
 use Rattle.reader.specs.Numbers.{are_fields, num, up_to255}
 use Rattle.reader.specs.Drafts.{lined, unless_refused, follows_group, with_thread}
-use Rattle.reader.specs.declared.fields.Fields.{Fields}
+use Rattle.reader.specs.Numbers.{Fields}
 use Rattle.reader.specs.declared.draft.Draft.{Draft}
-use Rattle.reader.specs.declared.draft.Lined.{Lined}
+use Rattle.reader.specs.Drafts.{Lined}
 
 unfoldable pub thread_names23 : ℕ → ℕ → ℕ → ℕ → Bool
 thread_names23 machines programs m program = either (leb machines m) (leb programs program)

@@ -4,9 +4,9 @@ use Rattle.terms.specs.Base.{pick}
 use Rattle.model.specs.Fields.{either}
 use Rattle.reader.specs.Numbers.{are_fields, num, up_to255}
 use Rattle.reader.specs.Drafts.{lined, unless_refused, with_edition}
-use Rattle.reader.specs.declared.fields.Fields.{Fields}
+use Rattle.reader.specs.Numbers.{Fields}
 use Rattle.reader.specs.declared.draft.Draft.{Draft}
-use Rattle.reader.specs.declared.draft.Lined.{Lined}
+use Rattle.reader.specs.Drafts.{Lined}
 
 unfoldable pub known_edition : ℕ → Bool
 known_edition edition = eqb edition 1

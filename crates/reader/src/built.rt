@@ -1,53 +1,30 @@
-// The model of a file, and the model that is all zero.
-ghost use Rattle.std.specs.Prelude.{◌≡◌};
-ghost use Rattle.reader.specs.Load.{no_model, model_of};
+// The model of a file.
+#![tactic(auto, unfolding(crate::specs::Load::model_of))]
 
-use crate::draft::{Draft, no_claim};
+ghost use Rattle.std.specs.Prelude.{◌≡◌};
+ghost use Rattle.reader.specs.Load.{model_of};
+
+use crate::first::Reading;
 use model::records::Model;
 
-pub fn no_model() -> Model
-    ensures { result ≡ no_model }
-{
-    let claim = no_claim();
-    Model {
-        edition: 0,
-        lines: [0; 512],
-        count: 0,
-        actions: [0; 512],
-        lengths: [0; 32],
-        programs: 0,
-        machines: [0; 4],
-        machine_count: 0,
-        locations: [0; 32],
-        location_count: 0,
-        threads: [0; 8],
-        thread_count: 0,
-        claim,
-    }
-}
-
 // The model of a file whose every line was good.
-pub fn model_of(lines: [u64; 512], actions: [u64; 512], d: Draft) -> Model
-    ensures { result ≡ model_of lines actions d }
+pub fn model_of(r: &Reading) -> Model
+    ensures { result ≡ model_of r.now.terms r.now.actions r.now.draft }
 {
-    let lengths = d.lengths;
-    let machines = d.machines;
-    let locations = d.locations;
-    let threads = d.threads;
-    let claim = d.claim;
+    let d = &r.draft;
     Model {
         edition: d.edition,
-        lines,
+        lines: r.terms,
         count: d.count,
-        actions,
-        lengths,
+        actions: r.actions,
+        lengths: d.lengths,
         programs: d.programs,
-        machines,
+        machines: d.machines,
         machine_count: d.machine_count,
-        locations,
+        locations: d.locations,
         location_count: d.location_count,
-        threads,
+        threads: d.threads,
         thread_count: d.thread_count,
-        claim,
+        claim: d.claim,
     }
 }

@@ -1,116 +1,79 @@
 // C kind v m path: the last line, with a path of 1 to 4 programs.
-ghost use Rattle.std.specs.Prelude.{◌≡◌, ◌-◌};
-ghost use Rattle.reader.specs.Drafts.{lined, with_claim};
+#![tactic(auto, using(crate::proofs::Laws::refused), unfolding(crate::specs::CLine::claim_form20, crate::specs::CLine::path_names23, crate::specs::CLine::claim_names23, crate::specs::CLine::claim_refusal, crate::specs::CLine::claim_of, crate::specs::CLine::claim_line, crate::specs::Drafts::with_claim))]
+
+ghost use Rattle.std.specs.Prelude.{◌≡◌};
+ghost use Rattle.reader.specs.Refused.{number_in};
+ghost use Rattle.reader.specs.Numbers.{good, told};
+ghost use Rattle.reader.specs.Drafts.{lined_in};
 ghost use Rattle.reader.specs.CLine.{claim_form20, path_names23, claim_names23, claim_refusal, claim_of, claim_line};
 
-use crate::draft::{Draft, Lined, accept, follows, refuse};
+use crate::draft::{Draft, follows};
 use crate::fields::{Fields, up_to_255};
+use crate::refusal::Refusal;
 use model::records::Claim;
 
-pub fn claim_line(d: Draft, f: Fields) -> Lined
-    ensures { result ≡ claim_line d f }
+pub fn claim_line(d: &mut Draft, f: &Option<Fields>) -> Result<(), Refusal>
+    ensures { lined_in result d.new ≡ claim_line d.old (told f.now) }
 {
-    let n = claim_refusal(d, f);
-    if n != 0 {
-        return refuse(n, d);
-    }
-    claim_entry(d, claim_of(f))
+    let Some(f) = f else {
+        return Err(Refusal::Form);
+    };
+    claim_refusal(d, f)?;
+    d.claim = claim_of(f);
+    d.group = Draft::C;
+    Ok(())
 }
 
-fn claim_refusal(d: Draft, f: Fields) -> u8
-    ensures { result ≡ claim_refusal d f }
+fn claim_refusal(d: &Draft, f: &Fields) -> Result<(), Refusal>
+    ensures { number_in result ≡ claim_refusal d.now (good f.now) }
 {
     if claim_form20(f) {
-        return 20;
+        return Err(Refusal::Form);
     }
-    let v = f.values;
     if !follows(d.group, Draft::M, Draft::T) {
-        return 21;
+        return Err(Refusal::Order);
     }
-    if 1 < v[0] {
-        return 22;
+    if 1 < f.values[0] {
+        return Err(Refusal::Limit);
     }
     if claim_names23(d.machine_count, d.programs, f) {
-        return 23;
+        return Err(Refusal::Name);
     }
-    0
+    Ok(())
 }
 
 // Three numbers, then the path: of 1 to 4 programs.
-fn claim_form20(f: Fields) -> bool
-    ensures { result ≡ claim_form20 f }
+fn claim_form20(f: &Fields) -> bool
+    ensures { result ≡ claim_form20 (good f.now) }
 {
-    if f.good {
-        if f.count <= 3 {
-            return true;
-        }
-        3 + Claim::PATH < f.count
-    } else {
-        true
-    }
+    f.count <= 3 || 3 + Claim::PATH < f.count
 }
 
-fn claim_names23(machines: u8, programs: u8, f: Fields) -> bool
-    ensures { result ≡ claim_names23 machines programs f }
+fn claim_names23(machines: u8, programs: u8, f: &Fields) -> bool
+    ensures { result ≡ claim_names23 machines programs (good f.now) }
 {
-    let v = f.values;
-    if programs as u16 <= v[1] {
-        return true;
-    }
-    if machines as u16 <= v[2] {
-        return true;
-    }
-    path_names23(programs as u16, f)
+    u16::from(programs) <= f.values[1]
+        || u16::from(machines) <= f.values[2]
+        || path_names23(u16::from(programs), f)
 }
 
 // The places past the path are 0, a program that is always listed here.
-fn path_names23(programs: u16, f: Fields) -> bool
-    ensures { result ≡ path_names23 programs f }
+fn path_names23(programs: u16, f: &Fields) -> bool
+    ensures { result ≡ path_names23 programs (good f.now) }
 {
-    let v = f.values;
-    if programs <= v[3] {
-        return true;
-    }
-    if programs <= v[4] {
-        return true;
-    }
-    if programs <= v[5] {
-        return true;
-    }
-    programs <= v[6]
+    f.values[3..].iter().any(|p| programs <= *p)
 }
 
-fn claim_of(f: Fields) -> Claim
-    ensures { result ≡ claim_of f }
+fn claim_of(f: &Fields) -> Claim
+    ensures { result ≡ claim_of (good f.now) }
 {
-    let v = f.values;
-    let path = [
-        up_to_255(v[3]),
-        up_to_255(v[4]),
-        up_to_255(v[5]),
-        up_to_255(v[6]),
-    ];
-    let length = path_length(f.count);
+    let v = &f.values;
     Claim {
         kind: up_to_255(v[0]),
         program: up_to_255(v[1]),
         machine: up_to_255(v[2]),
-        path,
-        length,
+        path: [v[3], v[4], v[5], v[6]].map(up_to_255),
+        // its numbers without the first three
+        length: f.count.saturating_sub(3),
     }
-}
-
-// A claim's numbers without the first three.
-fn path_length(count: u8) -> u8
-    ensures { result ≡ count - 3 }
-{
-    if count < 3 { 0 } else { count - 3 }
-}
-
-fn claim_entry(mut d: Draft, claim: Claim) -> Lined
-    ensures { result ≡ lined 0 (with_claim d claim) }
-{
-    d.claim = claim;
-    d.group = Draft::C;
-    accept(d)
 }

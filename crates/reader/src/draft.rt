@@ -1,11 +1,15 @@
-// What the lines read so far have told: the model without its two large tables, which are lent beside it, and what
-// the rules of the next line ask.
+// What the lines read so far have told: the model without its two large tables, which stand beside it, and what the
+// rules of the next line ask.
+#![tactic(auto, unfolding(crate::specs::Drafts::no_claim, crate::specs::Drafts::fresh_draft, crate::specs::Drafts::follows_group))]
+
 ghost use Rattle.std.specs.Prelude.{◌≡◌};
-ghost use Rattle.reader.specs.Drafts.{no_claim, fresh_draft, lined, follows_group};
+ghost use Rattle.reader.specs.Drafts.{no_claim, fresh_draft, follows_group};
 
 use model::records::Claim;
 use terms::table::Table;
 
+// kept: no heap here, so each list is an array and its count, as in the model; group and edition are numbers, since a draft that
+// is lent may hold any, and the lines' definitions answer for all
 #[derive(Clone, Copy)]
 pub struct Draft {
     // the group of the last line: 0 before the first, then 1 to 7 for V, E, A, M, L, T, C
@@ -19,6 +23,7 @@ pub struct Draft {
     pub lengths: [u8; 32],
     pub programs: u8,
     // the last action read is a jump or a late launch, so its program has ended
+    // kept: a fact by itself, of which action_order21 of specs speaks
     pub closed: bool,
     pub machines: [u32; 4],
     pub machine_count: u8,
@@ -27,13 +32,6 @@ pub struct Draft {
     pub threads: [u32; 8],
     pub thread_count: u8,
     pub claim: Claim,
-}
-
-// A line's answer: 0, or the number of its refusal, and the draft after it.
-#[derive(Drop)]
-pub struct Lined {
-    pub number: u8,
-    pub draft: Draft,
 }
 
 impl Draft {
@@ -87,28 +85,9 @@ pub fn no_claim() -> Claim
     }
 }
 
-// A refused line leaves the draft as it came.
-pub fn refuse(number: u8, d: Draft) -> Lined
-    ensures { result ≡ lined number d }
-{
-    Lined { number, draft: d }
-}
-
-pub fn accept(d: Draft) -> Lined
-    ensures { result ≡ lined 0 d }
-{
-    Lined {
-        number: 0,
-        draft: d,
-    }
-}
-
 // The last line's group is one that this line may follow.
 pub fn follows(group: u8, from: u8, to: u8) -> bool
     ensures { result ≡ follows_group group from to }
 {
-    if group < from {
-        return false;
-    }
-    group <= to
+    from <= group && group <= to
 }

@@ -1,100 +1,111 @@
 // The first reading: line after line, the first bad line with its lowest number, as far as earlier lines tell.
-ghost use Rattle.std.specs.Prelude.{◌≡◌};
-ghost use Rattle.reader.specs.FirstReading.{kept, one_line, next_line, read_answer, whole_read, first_reading};
+#![tactic(auto, using(crate::proofs::Laws::refused, crate::proofs::Laws::bad_line), unfolding(crate::specs::FirstReading::one_line, crate::specs::FirstReading::next_line, crate::specs::FirstReading::whole_read))]
+
+ghost use Rattle.std.specs.Prelude.{◌≡◌, replicate};
+ghost use Rattle.terms.specs.Table.{fresh_table};
+ghost use Rattle.reader.specs.Drafts.{fresh_draft, lined_in};
+ghost use Rattle.reader.specs.FirstReading.{kept, one_line, next_line, read_in, whole_read, reading_on};
 
 use crate::action::action_line;
 use crate::claim::claim_line;
-use crate::draft::{Draft, Lined, refuse};
+use crate::draft::Draft;
 use crate::fields::fields_of;
 use crate::location::location_line;
 use crate::machines::machine_line;
+use crate::refusal::{Fault, Refusal};
 use crate::term::term_line;
 use crate::thread::thread_line;
 use crate::version::version_line;
-use lines::field::{Cut, byte_at, cut_line, front_of, rest_of};
+use lines::field::{byte_at, cut_line, front_of, rest_of};
 use lines::tail::{Tail, width};
+use terms::table::Table;
 
-// The first reading's answer: number 0, or a refusal with its line, and the draft after the lines that were good.
+// What the lines read so far have told: the two tables, and the draft beside them.
 #[derive(Drop)]
-pub struct Read {
-    pub number: u8,
-    pub line: u32,
+pub struct Reading {
+    pub terms: [u64; 512],
+    pub actions: [u64; 512],
     pub draft: Draft,
 }
 
-impl Read {
-    // A file has at most this many bytes.
-    pub const BYTES: usize = Tail::BYTES;
+impl Reading {
+    // Before the first line: the fixed terms alone.
+    pub fn fresh() -> Reading
+        ensures terms { result.terms ≡ fresh_table.lines }
+        ensures actions { result.actions ≡ replicate 512 0 }
+        ensures draft { result.draft ≡ fresh_draft }
+    {
+        let terms = Table::fresh().lines;
+        Reading {
+            terms,
+            actions: [0; 512],
+            draft: Draft::fresh(),
+        }
+    }
 }
 
 // One line, without its LF, by its record letter.
-pub fn one_line(lines: &mut [u64; 512], actions: &mut [u64; 512], d: Draft, line: &[u8]) -> Lined
-    ensures { kept result lines.new actions.new ≡ one_line lines.old actions.old d line.now }
+pub fn one_line(r: &mut Reading, line: &[u8]) -> Result<(), Refusal>
+    ensures { kept (lined_in result r.new.draft) r.new.terms r.new.actions
+        ≡ one_line r.old.terms r.old.actions r.old.draft line.now }
 {
-    let letter = byte_at(line, 0);
     let f = fields_of(line);
-    match letter {
-        b'V' => version_line(d, f),
-        b'E' => term_line(lines, d, f),
-        b'A' => action_line(actions, d, f),
-        b'M' => machine_line(d, f),
-        b'L' => location_line(lines, d, f),
-        b'T' => thread_line(d, f),
-        b'C' => claim_line(d, f),
-        _ => refuse(20, d),
+    match byte_at(line, 0) {
+        b'V' => version_line(&mut r.draft, &f),
+        b'E' => term_line(&mut r.terms, &mut r.draft, &f),
+        b'A' => action_line(&mut r.actions, &mut r.draft, &f),
+        b'M' => machine_line(&mut r.draft, &f),
+        b'L' => location_line(&r.terms, &mut r.draft, &f),
+        b'T' => thread_line(&mut r.draft, &f),
+        b'C' => claim_line(&mut r.draft, &f),
+        _ => Err(Refusal::Form),
     }
 }
 
 // The first line of a rest of the file. Bytes with no LF behind them are a line of bad form.
-fn next_line(lines: &mut [u64; 512], actions: &mut [u64; 512], d: Draft, rest: &[u8]) -> Lined
-    ensures { kept result lines.new actions.new ≡ next_line lines.old actions.old d rest.now }
+fn next_line(r: &mut Reading, rest: &[u8]) -> Result<(), Refusal>
+    ensures { kept (lined_in result r.new.draft) r.new.terms r.new.actions
+        ≡ next_line r.old.terms r.old.actions r.old.draft rest.now }
 {
-    let c = cut_line(rest);
-    match c {
-        Cut::Line(n) => one_line(lines, actions, d, front_of(rest, n)),
-        Cut::Open => refuse(20, d),
+    match cut_line(rest) {
+        Some(n) => one_line(r, front_of(rest, n)),
+        None => Err(Refusal::Form),
     }
 }
 
-pub fn first_reading(file: &[u8], lines: &mut [u64; 512], actions: &mut [u64; 512]) -> Read
-    ensures { kept result lines.new actions.new ≡ first_reading file.now lines.old actions.old }
+// Goes on from what was read before, a fresh reading before the first line.
+pub fn first_reading(file: &[u8], r: &mut Reading) -> Result<(), Fault>
+    ensures { kept (read_in result r.new.draft) r.new.terms r.new.actions
+        ≡ reading_on file.now r.old.terms r.old.actions r.old.draft }
 {
-    let mut d = Draft::fresh();
-    if Read::BYTES < file.len() {
-        return answer(26, 0, d);
+    if Tail::BYTES < file.len() {
+        return Err(Fault {
+            refusal: Refusal::Length,
+            line: 0,
+        });
     }
-    let mut at = 0;
+    let mut rest = file;
     let mut line = 1;
-    while at < file.len() {
-        let rest = rest_of(file, at);
-        let wide = width(rest);
-        let r = next_line(lines, actions, d, rest);
-        d = r.draft;
-        if r.number != 0 {
-            return answer(r.number, line, d);
+    // kept: where the next line starts is known once this one is measured
+    while !rest.is_empty() {
+        if let Err(refusal) = next_line(r, rest) {
+            return Err(Fault { refusal, line });
         }
-        at += wide;
+        rest = rest_of(rest, width(rest));
         line += 1;
     }
-    whole(line, d)
+    whole(line, &r.draft)
 }
 
 // After the last line: there must have been a C.
-fn whole(line: u32, d: Draft) -> Read
-    ensures { result ≡ whole_read line d }
+fn whole(line: u32, d: &Draft) -> Result<(), Fault>
+    ensures { read_in result d.now ≡ whole_read line d.now }
 {
     if d.group != Draft::C {
-        return answer(21, line, d);
+        return Err(Fault {
+            refusal: Refusal::Order,
+            line,
+        });
     }
-    answer(0, 0, d)
-}
-
-fn answer(number: u8, line: u32, d: Draft) -> Read
-    ensures { result ≡ read_answer number line d }
-{
-    Read {
-        number,
-        line,
-        draft: d,
-    }
+    Ok(())
 }

@@ -1,7 +1,8 @@
-// The model file: bytes to a model, or the number and the line of a refusal.
+// The model file: bytes to a model, or a refusal and its line.
 //
+//   refusal  why a file is refused, and where
 //   fields   the numbers of one line
-//   draft    what the lines read so far have told, beside the two lent tables
+//   draft    what the lines read so far have told, beside the two tables
 //   version, term, action, machines, location, thread, claim
 //            the records V, E, A, M, L, T, C: the rules of refusal in the order of their numbers, then the entry
 //   first    the first reading, line after line
@@ -10,15 +11,13 @@
 #![tactic(auto)]
 
 ghost use Rattle.std.specs.Prelude.{◌≡◌};
-ghost use Rattle.reader.specs.SecondReading.{second_reading};
-ghost use Rattle.reader.specs.Load.{refused_with, load_second, load_of};
+ghost use Rattle.reader.specs.Load.{loaded_in, load_of};
 
-use built::{model_of, no_model};
-use draft::Draft;
-use first::first_reading;
+use built::model_of;
+use first::{Reading, first_reading};
 use model::records::Model;
+use refusal::Fault;
 use second::second_reading;
-use terms::table::Table;
 
 pub mod action;
 pub mod built;
@@ -28,57 +27,18 @@ pub mod fields;
 pub mod first;
 pub mod location;
 pub mod machines;
+pub mod refusal;
 pub mod second;
 pub mod term;
 pub mod thread;
 pub mod version;
 
-#[derive(Drop)]
-pub struct Loaded {
-    // 0, or the number of the refusal
-    pub number: u8,
-    pub line: u32,
-    pub model: Model,
-}
-
-// Both readings of a file. A refusal gives its number and line, and a model that is all zero.
-pub fn load(file: &[u8]) -> Loaded
-    ensures { result ≡ load_of file.now }
+// Both readings of a file. A refused file gives its refusal and the line, and no model at all.
+pub fn load(file: &[u8]) -> Result<Model, Fault>
+    ensures { loaded_in result ≡ load_of file.now }
 {
-    let fresh = Table::fresh();
-    let mut lines = fresh.lines;
-    let mut actions = [0u64; 512];
-    let r = first_reading(file, &mut lines, &mut actions);
-    if r.number != 0 {
-        return refused(r.number, r.line);
-    }
-    let d = r.draft;
-    after_first(lines, actions, d)
-}
-
-// The tables and the draft after a first reading without a refusal.
-fn after_first(lines: [u64; 512], actions: [u64; 512], d: Draft) -> Loaded
-    ensures { result ≡ load_second (second_reading lines actions d) lines actions d }
-{
-    let s = second_reading(&lines, &actions, d);
-    if s.number != 0 {
-        return refused(s.number, s.line);
-    }
-    let model = model_of(lines, actions, d);
-    Loaded {
-        number: 0,
-        line: 0,
-        model,
-    }
-}
-
-fn refused(number: u8, line: u32) -> Loaded
-    ensures { result ≡ refused_with number line }
-{
-    let model = no_model();
-    Loaded {
-        number,
-        line,
-        model,
-    }
+    let mut r = Reading::fresh();
+    first_reading(file, &mut r)?;
+    second_reading(&r)?;
+    Ok(model_of(&r))
 }

@@ -1,11 +1,16 @@
 // The second reading, of what only later lines tell: code terms and the locations of actions (23), equal programs
 // (24, at the later one's last action), the kinds of the locations (25); by line, then by number.
+#![tactic(auto, using(crate::proofs::Laws::refused), unfolding(crate::specs::SecondReading::first_bad_code, crate::specs::SecondReading::line_of_label, crate::specs::SecondReading::program_twice24, crate::specs::SecondReading::action_second, crate::specs::SecondReading::program_reading, crate::specs::SecondReading::programs_reading, crate::specs::SecondReading::second_reading))]
+
 ghost use Rattle.std.specs.Prelude.{◌≡◌};
-ghost use Rattle.reader.specs.SecondReading.{refusal, first_bad_code, LabelLine, line_of_label, program_twice24, action_second, within};
-ghost use Rattle.reader.specs.SecondReading.{program_reading, programs_from, second_reading};
+ghost use Rattle.reader.specs.Refused.{number_in};
+ghost use Rattle.reader.specs.SecondReading.{below, first_bad_code, LabelLine, program_twice24, action_second, within_in};
+ghost use Rattle.reader.specs.SecondReading.{program_reading, programs_reading, second_in, second_reading};
 
 use crate::action::location_past;
 use crate::draft::Draft;
+use crate::first::Reading;
+use crate::refusal::{Fault, Refusal};
 use audit::models::names_program;
 use audit::programs::new_program;
 use model::fields::kind_fits;
@@ -13,151 +18,87 @@ use model::records::{action_at, length_at, location_at};
 use terms::line::term_at;
 use terms::table::Table;
 
-// Number 0, or a refusal with its line.
-#[derive(Drop)]
-pub struct Refusal {
-    pub number: u8,
-    pub line: u32,
-}
-
-fn refusal_at(number: u8, line: u32) -> Refusal
-    ensures { result ≡ refusal number line }
-{
-    Refusal { number, line }
-}
-
 // E lines stand from line 2 on, one for each listed label, and A lines right after them.
-pub fn second_reading(lines: &[u64; 512], actions: &[u64; 512], d: Draft) -> Refusal
-    ensures { result ≡ second_reading lines.now actions.now d }
+pub fn second_reading(r: &Reading) -> Result<(), Fault>
+    ensures { second_in result ≡ second_reading r.now.terms r.now.actions r.now.draft }
 {
-    let e = first_bad_code(lines, d.count, d.programs);
-    if e < d.count {
-        return refusal_at(23, line_of_label(e));
+    let d = &r.draft;
+    if let Some(label) = first_bad_code(&r.terms, d.count, d.programs) {
+        return Err(Fault {
+            refusal: Refusal::Name,
+            line: line_of_label(label),
+        });
     }
-    programs_reading(
-        actions,
-        &d.lengths,
-        &d.locations,
-        d.location_count,
-        d.programs,
-        d.count,
-    )
+    programs_reading(&r.actions, d)
 }
 
 fn line_of_label(label: u16) -> u32
     ensures { LabelLine label result }
 {
-    let first = Table::FIXED;
-    if label < first {
-        2
-    } else {
-        (label - first) as u32 + 2
-    }
+    u32::from(label.saturating_sub(Table::FIXED)) + 2
 }
 
-// The first label that is the code of a program not listed; the count where there is none.
-fn first_bad_code(lines: &[u64; 512], count: u16, programs: u8) -> u16
-    ensures { result ≡ first_bad_code lines.now count programs }
+// The first label that is the code of a program not listed.
+fn first_bad_code(lines: &[u64; 512], count: u16, programs: u8) -> Option<u16>
+    ensures { result ≡ below (first_bad_code lines.now count programs) count }
 {
-    let mut i = 0;
-    while i < count {
-        if !names_program(term_at(lines, i), programs) {
-            return i;
-        }
-        i += 1;
-    }
-    count
+    (0..count).find(|label| !names_program(term_at(lines, *label), programs))
 }
 
 // Program after program; the first one's actions stand right after the E lines.
-fn programs_reading<'a>(
-    actions: &'a [u64; 512],
-    lengths: &'a [u8; 32],
-    locations: &'a [u32; 32],
-    locs: u8,
-    programs: u8,
-    count: u16,
-) -> Refusal
-    ensures { result ≡ programs_from programs 0 (line_of_label count)
-        (λ p. program_reading actions.now lengths.now locations.now locs p) lengths.now }
+fn programs_reading(actions: &[u64; 512], d: &Draft) -> Result<(), Fault>
+    ensures { second_in result ≡ programs_reading actions.now d.now }
 {
-    let mut line = line_of_label(count);
-    let mut p = 0;
-    while p < programs {
-        let r = program_reading(actions, lengths, locations, locs, p);
-        if r.number != 0 {
-            return refusal_at(r.number, line + r.at as u32);
+    let mut line = line_of_label(d.count);
+    for p in 0..d.programs {
+        if let Err(place) = program_reading(actions, d, p) {
+            return Err(Fault {
+                refusal: place.refusal,
+                line: line + u32::from(place.at),
+            });
         }
-        line += length_at(lengths, p) as u32;
-        p += 1;
+        line += u32::from(length_at(&d.lengths, p));
     }
-    refusal_at(0, 0)
+    Ok(())
 }
 
-// Number 0, or a refusal at an action of one program.
-#[derive(Drop)]
-struct Within {
-    number: u8,
+// A refusal at an action of one program.
+#[derive(Clone, Copy)]
+struct Place {
+    refusal: Refusal,
     at: u8,
 }
 
-fn within_at(number: u8, at: u8) -> Within
-    ensures { result ≡ within number at }
+fn program_reading(actions: &[u64; 512], d: &Draft, p: u8) -> Result<(), Place>
+    ensures { within_in result ≡ program_reading actions.now d.now.lengths d.now.locations d.now.location_count p }
 {
-    Within { number, at }
-}
-
-fn program_reading<'a>(
-    actions: &'a [u64; 512],
-    lengths: &'a [u8; 32],
-    locations: &'a [u32; 32],
-    count: u8,
-    p: u8,
-) -> Within
-    ensures { result ≡ program_reading actions.now lengths.now locations.now count p }
-{
-    let n = length_at(lengths, p);
-    let mut k = 0;
-    while k < n {
-        let number = action_second(actions, lengths, locations, count, p, k);
-        if number != 0 {
-            return within_at(number, k);
+    for k in 0..length_at(&d.lengths, p) {
+        if let Err(refusal) = action_second(actions, d, p, k) {
+            return Err(Place { refusal, at: k });
         }
-        k += 1;
     }
-    within_at(0, 0)
+    Ok(())
 }
 
-fn action_second<'a>(
-    actions: &'a [u64; 512],
-    lengths: &'a [u8; 32],
-    locations: &'a [u32; 32],
-    count: u8,
-    p: u8,
-    k: u8,
-) -> u8
-    ensures { result ≡ action_second actions.now lengths.now locations.now count p k }
+fn action_second(actions: &[u64; 512], d: &Draft, p: u8, k: u8) -> Result<(), Refusal>
+    ensures { number_in result ≡ action_second actions.now d.now.lengths d.now.locations d.now.location_count p k }
 {
     let a = action_at(actions, p, k);
-    if location_past(a, count) {
-        return 23;
+    if location_past(a, d.location_count) {
+        return Err(Refusal::Name);
     }
-    if program_twice24(actions, lengths, p, k) {
-        return 24;
+    if program_twice24(actions, d, p, k) {
+        return Err(Refusal::Twice);
     }
-    let l = location_at(locations, a.loc);
-    if !kind_fits(a.op, l.kind) {
-        return 25;
+    if !kind_fits(a.op, location_at(&d.locations, a.loc).kind) {
+        return Err(Refusal::Kind);
     }
-    0
+    Ok(())
 }
 
 // The last action of a program, and an earlier program has the same actions.
-fn program_twice24<'a>(actions: &'a [u64; 512], lengths: &'a [u8; 32], p: u8, k: u8) -> bool
-    ensures { result ≡ program_twice24 actions.now lengths.now p k }
+fn program_twice24(actions: &[u64; 512], d: &Draft, p: u8, k: u8) -> bool
+    ensures { result ≡ program_twice24 actions.now d.now.lengths p k }
 {
-    if k as u16 + 1 != length_at(lengths, p) as u16 {
-        return false;
-    }
-    !new_program(actions, lengths, p)
+    u16::from(k) + 1 == u16::from(length_at(&d.lengths, p)) && !new_program(actions, &d.lengths, p)
 }

@@ -1,70 +1,70 @@
 // T agent machine program: one more listed thread; its agent is any number.
+#![tactic(auto, using(crate::proofs::Laws::refused), unfolding(crate::specs::TLine::thread_names23, crate::specs::TLine::thread_refusal, crate::specs::TLine::thread_of, crate::specs::TLine::thread_entry, crate::specs::TLine::thread_line, crate::specs::Drafts::with_thread))]
+
 ghost use Rattle.std.specs.Prelude.{◌≡◌};
+ghost use Rattle.reader.specs.Refused.{number_in};
+ghost use Rattle.reader.specs.Numbers.{good, told};
+ghost use Rattle.reader.specs.Drafts.{lined_in};
 ghost use Rattle.reader.specs.TLine.{thread_names23, thread_refusal, thread_of, thread_entry, thread_line};
 
-use crate::draft::{Draft, Lined, accept, follows, refuse};
+use crate::draft::{Draft, follows};
 use crate::fields::{Fields, up_to_255};
+use crate::refusal::Refusal;
 use model::records::{Listed, Model, pack_thread};
 
-pub fn thread_line(d: Draft, f: Fields) -> Lined
-    ensures { result ≡ thread_line d f }
+pub fn thread_line(d: &mut Draft, f: &Option<Fields>) -> Result<(), Refusal>
+    ensures { lined_in result d.new ≡ thread_line d.old (told f.now) }
 {
-    let n = thread_refusal(d, f);
-    if n != 0 {
-        return refuse(n, d);
-    }
+    let Some(f) = f else {
+        return Err(Refusal::Form);
+    };
+    thread_refusal(d, f)?;
     thread_entry(d, thread_of(f))
 }
 
-fn thread_refusal(d: Draft, f: Fields) -> u8
-    ensures { result ≡ thread_refusal d f }
+fn thread_refusal(d: &Draft, f: &Fields) -> Result<(), Refusal>
+    ensures { number_in result ≡ thread_refusal d.now (good f.now) }
 {
     if !f.are(3) {
-        return 20;
+        return Err(Refusal::Form);
     }
-    let v = f.values;
     if !follows(d.group, Draft::M, Draft::T) {
-        return 21;
+        return Err(Refusal::Order);
     }
     if Model::THREADS <= d.thread_count {
-        return 22;
+        return Err(Refusal::Limit);
     }
-    if thread_names23(d.machine_count, d.programs, v[1], v[2]) {
-        return 23;
+    if thread_names23(d.machine_count, d.programs, f.values[1], f.values[2]) {
+        return Err(Refusal::Name);
     }
-    0
+    Ok(())
 }
 
 fn thread_names23(machines: u8, programs: u8, machine: u16, program: u16) -> bool
     ensures { result ≡ thread_names23 machines programs machine program }
 {
-    if machines as u16 <= machine {
-        return true;
-    }
-    programs as u16 <= program
+    u16::from(machines) <= machine || u16::from(programs) <= program
 }
 
-fn thread_of(f: Fields) -> Listed
-    ensures { result ≡ thread_of f }
+fn thread_of(f: &Fields) -> Listed
+    ensures { result ≡ thread_of (good f.now) }
 {
-    let v = f.values;
     Listed {
-        agent: v[0],
-        machine: up_to_255(v[1]),
-        program: up_to_255(v[2]),
+        agent: f.values[0],
+        machine: up_to_255(f.values[1]),
+        program: up_to_255(f.values[2]),
     }
 }
 
-// The rule of 22 leaves no other case than the last.
-fn thread_entry(mut d: Draft, t: Listed) -> Lined
-    ensures { result ≡ thread_entry d t }
+// The rule of 22 leaves no other case than a place for it.
+fn thread_entry(d: &mut Draft, t: Listed) -> Result<(), Refusal>
+    ensures { lined_in result d.new ≡ thread_entry d.old t }
 {
-    let i = d.thread_count as usize;
-    if 8 <= i {
-        return refuse(22, d);
+    if Model::THREADS <= d.thread_count {
+        return Err(Refusal::Limit);
     }
-    d.threads[i] = pack_thread(t);
+    d.threads[usize::from(d.thread_count)] = pack_thread(t);
     d.thread_count += 1;
     d.group = Draft::T;
-    accept(d)
+    Ok(())
 }

@@ -10,10 +10,10 @@ use Rattle.terms.specs.Base.{pick, Held, held}
 use Rattle.terms.specs.Table.{add_to}
 use Rattle.terms.specs.Subst.{take_operands}
 use Rattle.terms.specs.declared.term.Term.{Term}
-use Rattle.terms.specs.declared.table.Outcome.{Outcome}
-use Rattle.terms.specs.declared.table.Outcome.TheVariants as O
-use Rattle.terms.specs.declared.subst.Taken.{Taken}
-use Rattle.terms.specs.declared.subst.Taken.TheVariants as T
+use Rattle.terms.specs.Outcome.{Outcome}
+use Rattle.terms.specs.Outcome as O
+use Rattle.terms.specs.Taken.{Taken}
+use Rattle.terms.specs.Taken as T
 use Rattle.terms.proofs.Back.{Grown, ZeroPast, grown_same, grown_then, cut_back, add_grows, operands_grow}
 use Rattle.model.specs.declared.records.Action.{Action}
 use Rattle.state.specs.Code.{way_of}
@@ -28,17 +28,14 @@ use Rattle.rules.specs.Effect.{place_of}
 use Rattle.rules.specs.Work.{result_by, meet_new, meet_by, meet_want, given_at, try_by, try_action, worked_by, work_advance, work_by, work_on}
 use Rattle.rules.specs.Made.{Layout, control_after}
 use Rattle.rules.specs.Step.{stepped, refused_step, go_worked, go_on, step_on}
-use Rattle.rules.specs.declared.want.Want.{Want}
-use Rattle.rules.specs.declared.want.Want.TheVariants.{Refuse, Keep, Make}
+use Rattle.rules.specs.Asked.{Want, Refuse, Keep, Make}
 use Rattle.rules.specs.declared.event.Happening.{Happening}
 use Rattle.rules.specs.declared.work.Labels.{Labels}
-use Rattle.rules.specs.declared.work.Worked.{Worked}
-use Rattle.rules.specs.declared.work.Worked.TheVariants.{Refused, Done}
-use Rattle.rules.specs.declared.work.Out.{Out}
-use Rattle.rules.specs.declared.work.Out.TheVariants as U
-use Rattle.rules.specs.declared.work.Tried.{Tried}
-use Rattle.rules.specs.declared.inner.Reply.TheVariants as R
-use Rattle.rules.specs.declared.inner.Stepped.{Stepped}
+use Rattle.rules.specs.Worked.{Worked, Refused, Done}
+use Rattle.rules.specs.Out.{Out, Tried}
+use Rattle.rules.specs.Out as U
+use Rattle.rules.specs.Reply as R
+use Rattle.rules.specs.Reply.{Stepped}
 
 -- meeting a want, whatever comes of it
 result_count : (o : Outcome) (x y c : ℕ) → (result_by o x y c).count ≡ c

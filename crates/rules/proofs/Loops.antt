@@ -1,40 +1,44 @@
 -- One turn of each loop, for any type of labels and any f: what stands already, and what is still to come.
-use Prim.Native.Nat.{ℕ, zero, suc, ◌+◌, ◌-◌, ◌*◌, ◌/◌, ◌<◌, ◌≤◌}
+use Prim.Native.Nat.{ℕ, zero, suc, ◌+◌, ◌*◌, ◌/◌, ◌<◌, ◌≤◌}
 use mathlib.Core.Bool.{Bool, true, false}
 use mathlib.Core.List.{List, [], ◌∷◌, ◌++◌, append-nil, append_assoc}
-use mathlib.Core.Path.{◌≡◌, refl, ap, ◌∙◌}
+use mathlib.Core.Path.{◌≡◌, refl, sym, ap, ◌∙◌}
 use native.Mathlib.Numerals.{add-one}
 use native.Mathlib.Omega.{arith}
 use lib.ListN.{length, get_or, take, drop, set, length-set, drop_of_length-le}
 use lib.Seq.{sets, drop-cons, take-suc-set, drop-set-lt, take_all}
+use lib.ListN.{length-take, length-drop, replicate, length-replicate}
+use Rattle.std.proofs.lemmas.Slice.{put_mid-paste}
+use Rattle.std.proofs.lemmas.List.Edits.{paste_all, sets-eq}
+use borrow.Rule.Slice.PartMut.{put_mid, mid_of}
 use lib.Dec.{ltb}
 use borrow.Author.Tests.{lt-ltb}
 use Rattle.terms.specs.Base.{pick, filled}
-use Rattle.terms.proofs.Laws.{fill_end}
 use Rattle.terms.proofs.Back.{fill_long}
 use Rattle.state.specs.Reset.{is_on}
-use Rattle.rules.specs.Effect.{place_of, end_place, cleared}
+use Rattle.rules.specs.Effect.{place_of, cleared}
 use Rattle.rules.specs.Restart.{var_reset, each_slot}
 use Rattle.rules.specs.Parts.{slot_cleared}
 
--- numbers stored one after another
-module _ {A : Type 0} (l : List A) (i k : ℕ) (vs : List A) where
-  pub sets_more : (d : A) → k < length vs → sets l (i + k) (drop k vs) ≡ sets (set l (i + k) (get_or vs k d)) (i + (k + 1)) (drop (k + 1) vs)
-  sets_more d h =
-      let e : i + (k + 1) ≡ suc (i + k) = omega arith in
-      rw (drop-cons vs k d h, e, add-one)
+-- a part of a list written anew is its elements stored one after another
+module _ {A : Type 0} (a : ℕ) (xs : List A) where
+  pub put_sets : (k : ℕ) (ys : List A) → k ≡ length ys → a + k ≤ length xs → put_mid a k xs ys ≡ sets xs a ys
+  put_sets k ys e h =
+      put_mid-paste a k xs ys ys k refl refl e
+      ∙ paste_all xs a ys k e
+      ∙ sym (sets-eq ys xs a (omega (arith, e, h)) ∙ rw (← e, append_assoc))
 
-  pub sets_end : length vs ≤ k → sets l (i + k) (drop k vs) ≡ l
-  sets_end h = rw (drop_of_length-le vs h)
+-- filling is storing one value again and again
+filled_sets : {A : Type 0} (v : A) (n i : ℕ) (l : List A) → filled v n i l ≡ sets l i (replicate n v)
+unfolding filled
+filled_sets v zero i l = refl
+filled_sets v (suc n) i l = rw add-one (filled_sets v n (suc i) (set l i v))
 
--- clearing a slot is filling up to its last place
-pub cleared_start : {A : Type 0} (v : A) (l : List A) (i : ℕ) → cleared v l i ≡ filled v (end_place i - place_of i 0) (place_of i 0) l
-unfolding cleared end_place place_of
-cleared_start v l i = go (ltb i 12) refl
-  where
-    go : (b : Bool) → ltb i 12 ≡ b → pick b (filled v 16 (i * 16 + 0) l) l ≡ filled v (pick b (i * 16 + 16) 0 - (i * 16 + 0)) (i * 16 + 0) l
-    go true e = let h : i * 16 + 16 - (i * 16 + 0) ≡ 16 = omega arith in rw h
-    go false e = rw (fill_end v 0 (i * 16 + 0) l (omega arith))
+pub put_filled : {A : Type 0} (v : A) (n i : ℕ) (l : List A) → i + n ≤ length l → put_mid i n l (replicate n v) ≡ filled v n i l
+put_filled v n i l h = put_sets i l n (replicate n v) (sym (length-replicate n v)) h ∙ sym (filled_sets v n i l)
+
+pub mid_long : {A : Type 0} (n i : ℕ) (l : List A) → i + n ≤ length l → length (mid_of i n l) ≡ n
+mid_long n i l h = omega (arith, length-take n (drop i l), length-drop i l)
 
 -- f of each variable and of its slot
 module _ {A : Type 0} (f : A → ℕ → A) (l : List A) (r : List ℕ) (i : ℕ) where

@@ -1,6 +1,6 @@
 -- What an action does to the values of locations and to variables. These are lists of labels; since nothing here looks
 -- into a label, all is said for any type in its place, with what stands for label 0 (none) given.
-use Rattle.std.specs.Prelude.{ℕ, ◌+◌, ◌*◌, ◌≤◌, List, ◌≡◌, set, eqb, ltb}
+use Rattle.std.specs.Prelude.{ℕ, ◌+◌, ◌*◌, List, set, eqb, ltb}
 use Rattle.terms.specs.Base.{pick, filled}
 use Rattle.model.specs.declared.records.Action.{Action}
 use Rattle.state.specs.Moves.{with_at, is_last}
@@ -31,11 +31,3 @@ bound_by none op r = pick (eqb op 2) none r
 -- "Action k of a program binds variable k"; a thread past its last action is gone, and its variables unbound
 unfoldable pub bound : {A : Type 0} → A → List ℕ → List A → ℕ → Slot → A → List A
 bound none lengths vars i s v = pick (is_last lengths s) (cleared none vars i) (with_var vars i s.position v)
-
--- one past the variables of slot i, 0 where there is no such slot
-unfoldable pub end_place : ℕ → ℕ
-end_place i = pick (ltb i 12) (place_of i 16) 0
-
-pub record End (i r : ℕ) : Type 0 where
-  pub is : r ≡ end_place i
-  pub small : r ≤ 192

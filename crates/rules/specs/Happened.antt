@@ -1,5 +1,5 @@
 -- The event of a step whose work is done, with the programs of the threads that end by it.
-use Rattle.std.specs.Prelude.{ℕ, List, [], eqb}
+use Rattle.std.specs.Prelude.{ℕ, List, eqb}
 use Rattle.terms.specs.Base.{pick}
 use Rattle.model.specs.declared.records.Action.{Action}
 use Rattle.state.specs.Slot.{slot_at}
@@ -18,10 +18,6 @@ use Rattle.rules.specs.declared.event.Event.{Event}
 use Rattle.rules.specs.declared.event.Event.TheVariants as E
 use Rattle.rules.specs.declared.event.Happening.{Happening}
 use Rattle.rules.specs.declared.work.Labels.{Labels}
-
--- all that is read of a frame which is lent
-abbrev pub lent_frame : List ℕ → ℕ → Frame
-lent_frame slots serial = record { slots = slots; locks = []; steps = 0; serial = serial; nonce = 0 }
 
 -- no thread ended as an accept
 abbrev pub alone_of : Event → Happening

@@ -4,6 +4,7 @@ use Rattle.std.specs.Prelude.{ℕ, List, eqb}
 use Rattle.terms.specs.Base.{pick}
 use Rattle.model.specs.Records.{machine_at}
 use Rattle.model.specs.declared.records.Action.{Action}
+use Rattle.model.specs.declared.records.Model.{Model}
 use Rattle.state.specs.Slot.{slot_at}
 use Rattle.state.specs.Code.{way_of}
 use Rattle.state.specs.Early.{next_action}
@@ -29,6 +30,9 @@ pub record Layout : Type 0 where
 
 abbrev pub layout : List ℕ → List ℕ → List ℕ → List ℕ → Layout
 layout actions lengths machines locations = record { actions = actions; lengths = lengths; machines = machines; locations = locations }
+
+abbrev pub layout_of : Model → Layout
+layout_of m = layout m.actions m.lengths m.machines m.locations
 
 -- the frame, in which no label stands, and the two lists of labels
 pub record Config (A : Type 0) : Type 0 where

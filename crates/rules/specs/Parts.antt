@@ -20,12 +20,19 @@ use Rattle.state.specs.declared.control.Control.{Control}
 use Rattle.rules.specs.Effect.{stored, cleared, bound_by, bound}
 use Rattle.rules.specs.Restart.{values_launched, values_reset, vars_reset}
 use Rattle.rules.specs.Made.{Layout}
-use Rattle.rules.specs.declared.made.Counters.{Counters}
 use Rattle.rules.specs.declared.work.Labels.{Labels}
 
 -- steps made, next serial, next nonce
+pub record Counters : Type 0 where
+  pub steps : ℕ
+  pub serial : ℕ
+  pub nonce : ℕ
+
 abbrev pub counters : ℕ → ℕ → ℕ → Counters
 counters steps serial nonce = record { steps = steps; serial = serial; nonce = nonce }
+
+abbrev pub counters_of : Frame → Counters
+counters_of f = counters f.steps f.serial f.nonce
 
 -- all of a configuration but its slots and the number of its terms
 pub record Rest : Type 0 where
@@ -38,17 +45,24 @@ abbrev pub rest : Counters → List ℕ → List ℕ → List ℕ → Rest
 rest c locks values vars = record { counters = c; locks = locks; values = values; vars = vars }
 
 abbrev pub rest_of : Control → Rest
-rest_of s = rest (counters s.frame.steps s.frame.serial s.frame.nonce) s.frame.locks s.values s.vars
+rest_of s = rest (counters_of s.frame) s.frame.locks s.values s.vars
 
 -- the parts put together
 abbrev pub frame_of : List ℕ → List ℕ → Counters → Frame
 frame_of slots locks c = record { slots = slots; locks = locks; steps = c.steps; serial = c.serial; nonce = c.nonce }
+
+abbrev pub with_counters : Frame → Counters → Frame
+with_counters f c = frame_of f.slots f.locks c
 
 abbrev pub frame_with : List ℕ → Rest → Frame
 frame_with slots r = frame_of slots r.locks r.counters
 
 abbrev pub control_with : List ℕ → Rest → ℕ → Control
 control_with slots r n = record { frame = frame_with slots r; values = r.values; vars = r.vars; count = n }
+
+-- a configuration with another rest
+abbrev pub with_rest : Control → Rest → Control
+with_rest s r = control_with s.frame.slots r s.count
 
 -- the slots after a jump (19), a late launch (20), any other action
 abbrev pub slots_acted : List ℕ → List ℕ → List ℕ → ℕ → ℕ → ℕ → Slot → Action → List ℕ

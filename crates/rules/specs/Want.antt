@@ -1,17 +1,27 @@
 -- What an action asks of the table once its operands are there: a label to keep, a term to make, or a refusal (10).
 -- One line an action. "Actions with no value of their own bind label 0": they keep 0.
-use Rattle.std.specs.Prelude.{ℕ, Bool, eqb}
+use Rattle.std.specs.Prelude.{ℕ, Bool, Option, Some, None, eqb}
 use Rattle.terms.specs.Base.{pick}
 use Rattle.terms.specs.Term.{term}
 use Rattle.terms.specs.declared.term.Term.{Term}
 use Rattle.model.specs.declared.records.Action.{Action}
-use Rattle.rules.specs.declared.want.Want.{Want}
-use Rattle.rules.specs.declared.want.Want.TheVariants.{Refuse, Keep, Make}
+use Rattle.rules.specs.Asked.{Want, Refuse, Keep, Make}
+use Rattle.rules.specs.declared.want.Want.{Want as Fitting}
+use Rattle.rules.specs.declared.want.Want.TheVariants as F
 use Rattle.rules.specs.declared.want.Given.{Given}
 
 -- the labels of ground x and y, the terms there, the value of the location, the next nonce
 abbrev pub operands_given : ℕ → ℕ → Term → Term → ℕ → ℕ → Given
 operands_given x y first second v n = record { x = x; y = y; first = first; second = second; value = v; nonce = n }
+
+-- what the code asks, nothing where it does not fit
+abbrev pub asked_in : Fitting → Want
+asked_in (F.Keep r) = Keep r
+asked_in (F.Make e) = Make e
+
+abbrev pub wanted_in : Option Fitting → Want
+wanted_in None = Refuse
+wanted_in (Some w) = asked_in w
 
 abbrev pub makes : ℕ → ℕ → ℕ → Want
 makes kind a b = Make (term kind a b)

@@ -1,35 +1,33 @@
 -- What a step does with the table: "the operands (8, then 9); 10; the result (8, then 9)". A refusal cuts the table back.
-use Rattle.std.specs.Prelude.{ℕ, ◌%◌, List, [], eqb}
+use Rattle.std.specs.Prelude.{ℕ, ◌%◌, List, Result, Ok, Err, eqb}
 use Rattle.terms.specs.Base.{pick, Held, held}
 use Rattle.terms.specs.Line.{term_at}
 use Rattle.terms.specs.Table.{add_to, cut_to}
 use Rattle.terms.specs.Subst.{take_operands}
 use Rattle.terms.specs.declared.term.Term.{Term}
-use Rattle.terms.specs.declared.table.Added.{Added}
-use Rattle.terms.specs.declared.table.Outcome.{Outcome}
-use Rattle.terms.specs.declared.table.Outcome.TheVariants as O
-use Rattle.terms.specs.declared.subst.Taken.{Taken}
-use Rattle.terms.specs.declared.subst.Taken.TheVariants as T
-use Rattle.terms.specs.declared.subst.Operands.{Operands}
+use Rattle.terms.specs.Outcome.{Added, Outcome}
+use Rattle.terms.specs.Outcome as O
+use Rattle.terms.specs.Taken.{Taken, Operands}
+use Rattle.terms.specs.Taken as T
 use Rattle.model.specs.declared.records.Action.{Action}
 use Rattle.state.specs.Slot.{slot_at}
 use Rattle.state.specs.Code.{way_of}
 use Rattle.state.specs.Control.{value_at}
 use Rattle.state.specs.Early.{next_action}
+use Rattle.state.specs.Refusal.{number_of}
+use Rattle.state.specs.declared.refusal.Refusal.{Refusal}
 use Rattle.state.specs.declared.code.Way.{Way}
 use Rattle.state.specs.declared.code.Way.TheVariants as W
 use Rattle.state.specs.declared.control.Control.{Control}
 use Rattle.rules.specs.Want.{operands_given, want_of}
 use Rattle.rules.specs.Effect.{place_of}
-use Rattle.rules.specs.declared.want.Want.{Want}
-use Rattle.rules.specs.declared.want.Want.TheVariants.{Refuse, Keep, Make}
+use Rattle.rules.specs.Asked.{Want, Refuse, Keep, Make}
+use Rattle.rules.specs.Worked.{Worked, Refused, Done}
+use Rattle.rules.specs.Out.{Out, Tried}
+use Rattle.rules.specs.Out as U
 use Rattle.rules.specs.declared.want.Given.{Given}
 use Rattle.rules.specs.declared.work.Labels.{Labels}
-use Rattle.rules.specs.declared.work.Worked.{Worked}
-use Rattle.rules.specs.declared.work.Worked.TheVariants.{Refused, Done}
-use Rattle.rules.specs.declared.work.Out.{Out}
-use Rattle.rules.specs.declared.work.Out.TheVariants as U
-use Rattle.rules.specs.declared.work.Tried.{Tried}
+use Rattle.rules.specs.declared.work.Met.{Met}
 
 -- the labels of ground x, y and of the result, the program of a jump, and the terms then in the table
 abbrev pub labels : ℕ → ℕ → ℕ → ℕ → ℕ → Labels
@@ -41,6 +39,11 @@ refused_by n c = record { out = U.Refused n; x = 0; y = 0; count = c }
 
 abbrev pub labelled_by : ℕ → ℕ → ℕ → ℕ → Tried
 labelled_by x y r c = record { out = U.Label r; x = x; y = y; count = c }
+
+-- the same as the code answers it, beside the terms entered by then
+abbrev pub tried_in : Result Met Refusal → ℕ → Tried
+tried_in (Ok m) c = labelled_by m.x m.y m.result c
+tried_in (Err r) c = refused_by (number_of r) c
 
 -- the result is a new term or an old one, too deep (8), or has no room (9)
 abbrev pub result_by : Outcome → ℕ → ℕ → ℕ → Tried
@@ -84,6 +87,11 @@ try_action l c vars o a v n = try_taken (take_operands l c vars o a.x a.y) a v n
 unfoldable pub code_at : List ℕ → ℕ → ℕ
 code_at l i = pick (eqb (term_at l i).kind 8) ((term_at l i).a % 256) 0
 
+-- what the work came to, as the code answers it
+abbrev pub worked_in : Result Labels Refusal → Worked
+worked_in (Ok l) = Done l
+worked_in (Err r) = Refused (number_of r)
+
 -- "A refused step gives .. the configuration, term table included, as it came"; "All new terms of a permitted step stay"
 abbrev pub worked_by : Out → Tried → List ℕ → ℕ → Held Worked
 worked_by (U.Refused n) r l c = held (Refused n) (cut_to l c r.count)
@@ -95,15 +103,6 @@ work_tried r c = worked_by r.out.out r.out r.table c
 abbrev pub work_of : List ℕ → Control → ℕ → Action → Held Worked
 work_of l s i a =
     work_tried (try_action l s.count s.vars (place_of i 0) a (value_at 0 s.values a.loc) s.frame.nonce) s.count
-
--- all that is read of a configuration which is lent: no locks, and of the counters the nonce alone
-abbrev pub lent_control : List ℕ → List ℕ → List ℕ → ℕ → ℕ → Control
-lent_control slots values vars count nonce = record {
-  frame = record { slots = slots; locks = []; steps = 0; serial = 0; nonce = nonce };
-  values = values;
-  vars = vars;
-  count = count;
-}
 
 -- the next action of the thread in slot i: the mover, or the sender
 unfoldable pub work_advance : List ℕ → Control → List ℕ → ℕ → Held Worked

@@ -1,11 +1,13 @@
-// The event of a permitted step, and its record: twelve plain numbers, so that a run's events can be lent.
+// The event of a permitted step, and its record: twelve plain numbers.
+#![tactic(auto, unfolding(crate::specs::Event::numbered, crate::specs::Event::record_of, crate::specs::Event::room_in, crate::specs::Event::number_at))]
+
 ghost use Rattle.std.specs.Prelude.{◌≡◌};
 ghost use Rattle.rules.specs.Event.{no_deed, numbered, record_of, room_in, number_at, record_put};
 
 use state::ended::{Ended, endings_of, first_ended, second_ended};
 
 // What the mover shows: its serial, its action's loc field, the labels of ground x, y and of the result, 0 where none.
-#[derive(Drop)]
+#[derive(Clone, Copy, PartialEq, Eq)]
 pub struct Deed {
     pub serial: u16,
     pub loc: u16,
@@ -14,7 +16,7 @@ pub struct Deed {
     pub result: u16,
 }
 
-#[derive(Drop)]
+#[derive(Clone, Copy, PartialEq, Eq)]
 pub enum Event {
     // the program jumped to
     Jump(Deed, u8),
@@ -28,7 +30,7 @@ pub enum Event {
 }
 
 // An event with its endings.
-#[derive(Drop)]
+#[derive(Clone, Copy)]
 pub struct Happening {
     pub event: Event,
     pub ended: Ended,
@@ -36,7 +38,7 @@ pub struct Happening {
 
 // A record: op (19 jump, 20 launch, 21 reset, 22 hand-over), serial, loc, x, y, result, program, machine, other thread,
 // number of endings, and their programs.
-#[derive(Drop)]
+#[derive(Clone, Copy)]
 pub struct Record {
     pub numbers: [u16; 12],
 }
@@ -84,14 +86,15 @@ pub fn no_deed() -> Deed
 pub fn record_of(h: Happening) -> Record
     ensures { result ≡ record_of h }
 {
-    let e = h.event;
     let n = h.ended;
-    match e {
-        Event::Jump(d, program) => numbered(19, d, program as u16, 0, 0, n),
-        Event::Launch(d, machine, thread) => numbered(20, d, 0, machine as u16, thread, n),
-        Event::Reset(machine, thread) => numbered(21, no_deed(), 0, machine as u16, thread, n),
+    match h.event {
+        Event::Jump(d, program) => numbered(19, d, u16::from(program), 0, 0, n),
+        Event::Launch(d, machine, thread) => numbered(20, d, 0, u16::from(machine), thread, n),
+        Event::Reset(machine, thread) => {
+            numbered(21, no_deed(), 0, u16::from(machine), thread, n)
+        }
         Event::HandOver(d, receiver) => numbered(22, d, 0, 0, receiver, n),
-        Event::Action(d, op) => numbered(op as u16, d, 0, 0, 0, n),
+        Event::Action(d, op) => numbered(u16::from(op), d, 0, 0, 0, n),
     }
 }
 
@@ -127,22 +130,18 @@ pub fn room_in(records: &[u16]) -> usize
 pub fn number_at(records: &[u16], i: u16, field: u8) -> u16
     ensures { result ≡ number_at records.now i field }
 {
-    let at = i as usize * Record::NUMBERS + field as usize;
-    if at < records.len() { records[at] } else { 0 }
+    let at = usize::from(i) * Record::NUMBERS + usize::from(field);
+    records.get(at).copied().unwrap_or(0)
 }
 
 // Puts a record at place i; a table with no room for it stays as it is.
-pub fn write_record(records: &mut [u16], i: u16, r: Record)
-    ensures { records.new ≡ record_put records.old i r }
+pub fn write_record(records: &mut [u16], i: u16, r: &Record)
+    ensures { records.new ≡ record_put records.old i r.now }
 {
-    let n = r.numbers;
-    let from = i as usize * Record::NUMBERS;
-    if records.len() < from + Record::NUMBERS {
-        return;
-    }
-    let mut k = 0;
-    while k < Record::NUMBERS {
-        records[from + k] = n[k];
-        k += 1;
+    let from = usize::from(i) * Record::NUMBERS;
+    // no get_mut: a proof knows nothing of the table after it
+    let end = from + Record::NUMBERS;
+    if end <= records.len() {
+        records[from..end].copy_from_slice(&r.numbers);
     }
 }

@@ -1,61 +1,46 @@
 // The event of a step whose work is done, with the programs of the threads that end by it. It only reads.
+#![tactic(auto, unfolding(crate::specs::Happened::advance_event, crate::specs::Happened::hand_event, crate::specs::Happened::happened_on, crate::specs::Happened::ended_advance, crate::specs::Happened::ended_on))]
+
 ghost use Rattle.std.specs.Prelude.{◌≡◌};
-ghost use Rattle.rules.specs.Happened.{alone_of, deed_of, advance_event, hand_event, lent_frame, happened_on, ended_advance, ended_on};
+ghost use Rattle.rules.specs.Happened.{alone_of, deed_of, advance_event, hand_event, happened_on, ended_advance, ended_on};
 
 use crate::event::{Deed, Event, Happening, no_deed};
 use crate::work::Labels;
-use model::records::Action;
+use model::records::{Action, Model};
 use state::code::{Way, way_of};
+use state::control::Frame;
 use state::early::next_action;
 use state::ended::{Ended, ended_both, ended_one};
 use state::slot::{Slot, slot_at};
 
-pub fn happened<'a, 'b>(
-    slots: &'b [u64; 12],
-    serial: u16,
-    actions: &'a [u64; 512],
-    lengths: &'a [u8; 32],
-    code: u16,
-    l: Labels,
-) -> Happening
-    ensures { result ≡ happened_on (lent_frame slots.now serial) actions.now lengths.now code l }
+pub fn happened(f: &Frame, m: &Model, code: u16, l: Labels) -> Happening
+    ensures { result ≡ happened_on f.now m.now.actions m.now.lengths code l }
 {
-    let w = way_of(code);
-    match w {
+    match way_of(code) {
         Way::Nothing => alone(Event::Action(no_deed(), 0)),
-        Way::Advance(i) => advance_event(slots, serial, actions, lengths, i, l),
-        Way::Hand(i, j) => hand_event(slots, actions, lengths, i, j, l),
-        Way::Reset(m) => alone(Event::Reset(m, serial)),
+        Way::Advance(i) => advance_event(f, m, i, l),
+        Way::Hand(i, j) => hand_event(f, m, i, j, l),
+        Way::Reset(machine) => alone(Event::Reset(machine, f.serial)),
     }
 }
 
 // The programs of the threads that end by a step: what its event says of endings, without the event.
-pub fn ended_by<'a, 'b>(
-    slots: &'b [u64; 12],
-    actions: &'a [u64; 512],
-    lengths: &'a [u8; 32],
-    code: u16,
-) -> Ended
-    ensures { result ≡ ended_on slots.now actions.now lengths.now code }
+pub fn ended_by(f: &Frame, m: &Model, code: u16) -> Ended
+    ensures { result ≡ ended_on f.now.slots m.now.actions m.now.lengths code }
 {
-    let w = way_of(code);
-    match w {
-        Way::Nothing => Ended::Nobody,
-        Way::Advance(i) => ended_advance(actions, lengths, slot_at(slots, i)),
-        Way::Hand(i, j) => ended_both(lengths, slot_at(slots, i), slot_at(slots, j)),
-        Way::Reset(_) => Ended::Nobody,
+    match way_of(code) {
+        Way::Advance(i) => ended_advance(m, slot_at(&f.slots, i)),
+        Way::Hand(i, j) => ended_both(&m.lengths, slot_at(&f.slots, i), slot_at(&f.slots, j)),
+        Way::Nothing | Way::Reset(_) => Ended::Nobody,
     }
 }
 
-fn ended_advance<'a>(actions: &'a [u64; 512], lengths: &'a [u8; 32], q: Slot) -> Ended
-    ensures { result ≡ ended_advance actions.now lengths.now q }
+fn ended_advance(m: &Model, q: Slot) -> Ended
+    ensures { result ≡ ended_advance m.now.actions m.now.lengths q }
 {
-    let a = next_action(actions, q);
-    let op = a.op;
-    match op {
-        19 => Ended::Nobody,
-        20 => Ended::Nobody,
-        _ => ended_one(lengths, q),
+    match next_action(&m.actions, q).op {
+        19 | 20 => Ended::Nobody,
+        _ => ended_one(&m.lengths, q),
     }
 }
 
@@ -82,46 +67,31 @@ fn deed_of(q: Slot, a: Action, l: Labels, res: u16) -> Deed
 }
 
 // A jump is no ending, and late launch is no accept.
-fn advance_event<'a, 'b>(
-    slots: &'b [u64; 12],
-    serial: u16,
-    actions: &'a [u64; 512],
-    lengths: &'a [u8; 32],
-    i: u8,
-    l: Labels,
-) -> Happening
-    ensures { result ≡ advance_event (lent_frame slots.now serial) actions.now lengths.now i l }
+fn advance_event(f: &Frame, m: &Model, i: u8, l: Labels) -> Happening
+    ensures { result ≡ advance_event f.now m.now.actions m.now.lengths i l }
 {
-    let q = slot_at(slots, i);
-    let a = next_action(actions, q);
+    let q = slot_at(&f.slots, i);
+    let a = next_action(&m.actions, q);
     let d = deed_of(q, a, l, l.result);
-    let op = a.op;
-    match op {
+    match a.op {
         19 => alone(Event::Jump(d, l.program)),
-        20 => alone(Event::Launch(d, q.machine, serial)),
-        _ => Happening {
+        20 => alone(Event::Launch(d, q.machine, f.serial)),
+        op => Happening {
             event: Event::Action(d, op),
-            ended: ended_one(lengths, q),
+            ended: ended_one(&m.lengths, q),
         },
     }
 }
 
 // The sender's deed shows the value as x, and no result.
-fn hand_event<'a, 'b>(
-    slots: &'b [u64; 12],
-    actions: &'a [u64; 512],
-    lengths: &'a [u8; 32],
-    i: u8,
-    j: u8,
-    l: Labels,
-) -> Happening
-    ensures { result ≡ hand_event (lent_frame slots.now 0) actions.now lengths.now i j l }
+fn hand_event(f: &Frame, m: &Model, i: u8, j: u8, l: Labels) -> Happening
+    ensures { result ≡ hand_event f.now m.now.actions m.now.lengths i j l }
 {
-    let q = slot_at(slots, i);
-    let r = slot_at(slots, j);
-    let d = deed_of(q, next_action(actions, q), l, 0);
+    let q = slot_at(&f.slots, i);
+    let r = slot_at(&f.slots, j);
+    let d = deed_of(q, next_action(&m.actions, q), l, 0);
     Happening {
         event: Event::HandOver(d, r.serial),
-        ended: ended_both(lengths, q, r),
+        ended: ended_both(&m.lengths, q, r),
     }
 }

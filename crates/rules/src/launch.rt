@@ -1,19 +1,18 @@
 // Late launch, values: the machine's dynamic registers become dinit, all others keep theirs.
+#![tactic(auto, unfolding(crate::specs::Restart::value_launched))]
+
 ghost use Rattle.std.specs.Prelude.{◌≡◌};
 ghost use Rattle.rules.specs.Restart.{value_launched, values_launched};
 
-use crate::effect::known_values;
 use state::launch::is_dynamic;
 
 // The dynamic registers of the machine become dinit.
 pub fn values_launched(values: &mut [u16; 32], locations: &[u32; 32], m: u8)
     ensures { values.new ≡ values_launched 2 values.old locations.now m }
 {
-    known_values(values);
-    let mut i = 0;
-    while i < 32 {
-        values[i] = value_launched(values[i], locations[i], m);
-        i += 1;
+    // no zip: a proof knows nothing of what an iter_mut under a zip wrote
+    for (i, value) in values.iter_mut().enumerate() {
+        *value = value_launched(*value, locations[i], m);
     }
 }
 

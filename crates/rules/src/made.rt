@@ -1,15 +1,16 @@
 // The configuration after a step whose work is done, made in place: first its slots, then all else, which goes by the slots
 // as they were. The table has then the terms that the work left in it.
+#![tactic(auto, using(crate::proofs::Parts::made_parts), unfolding(crate::specs::Parts::slots_advanced, crate::specs::Parts::slots_handed, crate::specs::Parts::slots_made, crate::specs::Parts::moved, crate::specs::Parts::started, crate::specs::Parts::rest_advanced, crate::specs::Parts::rest_handed, crate::specs::Parts::rest_reset, crate::specs::Parts::rest_made))]
+
 ghost use Rattle.std.specs.Prelude.{◌≡◌};
-ghost use Rattle.terms.specs.Base.{held};
-ghost use Rattle.rules.specs.Made.{layout, control_after};
-ghost use Rattle.rules.specs.Parts.{counters, frame_of, rest, slots_advanced, slots_handed, slots_made, moved, started, rest_advanced, rest_handed, rest_reset, rest_made};
+ghost use Rattle.rules.specs.Made.{layout_of, control_after};
+ghost use Rattle.rules.specs.Parts.{counters_of, with_counters, rest_of, rest_after, with_rest, control_with, slots_advanced, slots_handed, slots_made, moved, started, rest_advanced, rest_handed, rest_reset, rest_made};
 
 use crate::effect::{bound, bound_by, cleared, stored};
 use crate::launch::values_launched;
 use crate::reset::{values_reset, vars_reset};
 use crate::work::Labels;
-use model::records::machine_at;
+use model::records::{Model, machine_at};
 use state::code::{Way, way_of};
 use state::control::{Control, Frame, one_more};
 use state::early::next_action;
@@ -18,255 +19,129 @@ use state::moves::{jumped, locked, moved_on, nonce_after, with_slot};
 use state::reset::{locks_reset, slots_booted};
 use state::slot::slot_at;
 
-// Steps made, next serial, next nonce.
-#[derive(Drop)]
-pub struct Counters {
-    pub steps: u16,
-    pub serial: u16,
-    pub nonce: u16,
-}
-
-pub fn made<'a>(
-    s: Control,
-    actions: &'a [u64; 512],
-    lengths: &'a [u8; 32],
-    machines: &'a [u32; 4],
-    locations: &'a [u32; 32],
-    code: u16,
-    l: Labels,
-) -> Control
-    ensures { result ≡ control_after s (layout actions.now lengths.now machines.now locations.now) code l }
+pub fn made(s: &mut Control, m: &Model, code: u16, l: Labels)
+    ensures { s.new ≡ control_after s.old (layout_of m.now) code l }
 {
-    let f = s.frame;
-    let mut slots = f.slots;
-    let mut locks = f.locks;
-    let mut values = s.values;
-    let mut vars = s.vars;
-    let before = counters_in(f);
-    let next = f.serial;
-    let program = l.program;
-    slots_made(&mut slots, actions, lengths, machines, next, code, program);
-    let c = rest_made(
-        &f.slots,
-        &mut locks,
-        &mut values,
-        &mut vars,
-        before,
-        actions,
-        lengths,
-        locations,
-        machines,
-        code,
-        l,
-    );
-    Control {
-        frame: frame_with(slots, locks, c),
-        values,
-        vars,
-        count: l.count,
-    }
-}
-
-// The counters of a frame, and a frame with other ones.
-fn counters_in(f: Frame) -> Counters
-    ensures { result ≡ counters f.steps f.serial f.nonce }
-{
-    Counters {
-        steps: f.steps,
-        serial: f.serial,
-        nonce: f.nonce,
-    }
-}
-
-fn frame_with(slots: [u64; 12], locks: [u32; 32], c: Counters) -> Frame
-    ensures { result ≡ frame_of slots locks c }
-{
-    Frame {
-        slots,
-        locks,
-        steps: c.steps,
-        serial: c.serial,
-        nonce: c.nonce,
-    }
+    let mut slots = s.frame.slots;
+    slots_made(&mut slots, m, s.frame.serial, code, l.program);
+    rest_made(s, m, code, l);
+    s.frame.slots = slots;
 }
 
 // The slots after the step.
-pub fn slots_made<'a>(
-    slots: &mut [u64; 12],
-    actions: &'a [u64; 512],
-    lengths: &'a [u8; 32],
-    machines: &'a [u32; 4],
-    serial: u16,
-    code: u16,
-    program: u8,
-)
-    ensures { slots.new ≡ slots_made slots.old actions.now lengths.now machines.now serial code program }
+pub fn slots_made(slots: &mut [u64; 12], m: &Model, serial: u16, code: u16, program: u8)
+    ensures { slots.new ≡ slots_made slots.old m.now.actions m.now.lengths m.now.machines serial code program }
 {
-    let w = way_of(code);
-    match w {
+    match way_of(code) {
         Way::Nothing => {}
-        Way::Advance(i) => { slots_advanced(slots, actions, lengths, machines, serial, i, program) }
-        Way::Hand(i, j) => slots_handed(slots, lengths, i, j),
-        Way::Reset(m) => slots_booted(slots, machine_at(machines, m), m, serial),
+        Way::Advance(i) => slots_advanced(slots, m, serial, i, program),
+        Way::Hand(i, j) => slots_handed(slots, m, i, j),
+        Way::Reset(k) => slots_booted(slots, machine_at(&m.machines, k), k, serial),
     }
 }
 
-fn slots_advanced<'a>(
-    slots: &mut [u64; 12],
-    actions: &'a [u64; 512],
-    lengths: &'a [u8; 32],
-    machines: &'a [u32; 4],
-    serial: u16,
-    i: u8,
-    program: u8,
-)
-    ensures { slots.new ≡ slots_advanced slots.old actions.now lengths.now machines.now serial i program }
+fn slots_advanced(slots: &mut [u64; 12], m: &Model, serial: u16, i: u8, program: u8)
+    ensures { slots.new ≡ slots_advanced slots.old m.now.actions m.now.lengths m.now.machines serial i program }
 {
     let q = slot_at(slots, i);
-    let a = next_action(actions, q);
-    let op = a.op;
-    match op {
-        19 => with_slot(slots, i, jumped(q, program)),
-        20 => with_slot(slots, i, thread_launched(machines, q, serial)),
-        _ => with_slot(slots, i, moved_on(lengths, q)),
-    }
+    let after = match next_action(&m.actions, q).op {
+        19 => jumped(q, program),
+        20 => thread_launched(&m.machines, q, serial),
+        _ => moved_on(&m.lengths, q),
+    };
+    with_slot(slots, i, after);
 }
 
 // Both have made their action.
-fn slots_handed(slots: &mut [u64; 12], lengths: &[u8; 32], i: u8, j: u8)
-    ensures { slots.new ≡ slots_handed slots.old lengths.now i j }
+fn slots_handed(slots: &mut [u64; 12], m: &Model, i: u8, j: u8)
+    ensures { slots.new ≡ slots_handed slots.old m.now.lengths i j }
 {
     let q = slot_at(slots, i);
     let r = slot_at(slots, j);
-    with_slot(slots, i, moved_on(lengths, q));
-    with_slot(slots, j, moved_on(lengths, r));
+    with_slot(slots, i, moved_on(&m.lengths, q));
+    with_slot(slots, j, moved_on(&m.lengths, r));
 }
 
-// All but the slots: these are the slots before the step.
-pub fn rest_made<'a, 'b>(
-    slots: &'b [u64; 12],
-    locks: &mut [u32; 32],
-    values: &mut [u16; 32],
-    vars: &mut [u16; 192],
-    c: Counters,
-    actions: &'a [u64; 512],
-    lengths: &'a [u8; 32],
-    locations: &'a [u32; 32],
-    machines: &'a [u32; 4],
-    code: u16,
-    l: Labels,
-) -> Counters
-    ensures { rest result locks.new values.new vars.new ≡ rest_made slots.now (rest c locks.old values.old vars.old) (layout actions.now lengths.now machines.now locations.now) code l }
+// All but the slots, which must be those before the step.
+pub fn rest_made(s: &mut Control, m: &Model, code: u16, l: Labels)
+    ensures { s.new ≡ control_with s.old.frame.slots (rest_made s.old.frame.slots (rest_of s.old) (layout_of m.now) code l) l.count }
 {
-    let w = way_of(code);
-    match w {
-        Way::Nothing => c,
-        Way::Advance(i) => {
-            rest_advanced(
-                slots, locks, values, vars, c, actions, lengths, locations, i, l,
-            )
-        }
-        Way::Hand(i, j) => rest_handed(slots, vars, c, lengths, i, j, l.x),
-        Way::Reset(m) => rest_reset(slots, locks, values, vars, c, machines, locations, m),
+    s.count = l.count;
+    match way_of(code) {
+        Way::Nothing => {}
+        Way::Advance(i) => rest_advanced(s, m, i, l),
+        Way::Hand(i, j) => rest_handed(s, m, i, j, l.x),
+        Way::Reset(k) => rest_reset(s, m, k),
     }
 }
 
-fn rest_advanced<'a, 'b>(
-    slots: &'b [u64; 12],
-    locks: &mut [u32; 32],
-    values: &mut [u16; 32],
-    vars: &mut [u16; 192],
-    c: Counters,
-    actions: &'a [u64; 512],
-    lengths: &'a [u8; 32],
-    locations: &'a [u32; 32],
-    i: u8,
-    l: Labels,
-) -> Counters
-    ensures { rest result locks.new values.new vars.new ≡ rest_advanced slots.now (rest c locks.old values.old vars.old) actions.now lengths.now locations.now i l }
+fn rest_advanced(s: &mut Control, m: &Model, i: u8, l: Labels)
+    ensures { s.new ≡ with_rest s.old (rest_advanced s.old.frame.slots (rest_of s.old) m.now.actions m.now.lengths m.now.locations i l) }
 {
-    let q = slot_at(slots, i);
-    let a = next_action(actions, q);
-    let op = a.op;
-    match op {
+    let q = slot_at(&s.frame.slots, i);
+    let a = next_action(&m.actions, q);
+    match a.op {
         19 => {
             // the thread goes on at that program's start, no variables bound
-            cleared(vars, i);
-            locked(locks, a, q.serial);
-            moved(c, op)
+            cleared(&mut s.vars, i);
+            locked(&mut s.frame.locks, a, q.serial);
+            moved(&mut s.frame, a.op);
         }
         20 => {
             // a new thread in its slot holds the machine's dynamic registers
-            locks_launched(locks, locations, q.machine, c.serial);
-            values_launched(values, locations, q.machine);
-            cleared(vars, i);
-            started(c)
+            locks_launched(&mut s.frame.locks, &m.locations, q.machine, s.frame.serial);
+            values_launched(&mut s.values, &m.locations, q.machine);
+            cleared(&mut s.vars, i);
+            started(&mut s.frame);
         }
         _ => {
-            locked(locks, a, q.serial);
-            stored(values, a, l.x, l.result);
-            bound(lengths, vars, i, q, bound_by(op, l.result));
-            moved(c, op)
+            locked(&mut s.frame.locks, a, q.serial);
+            stored(&mut s.values, a, l.x, l.result);
+            bound(&m.lengths, &mut s.vars, i, q, bound_by(a.op, l.result));
+            moved(&mut s.frame, a.op);
         }
     }
 }
 
 // One step more; new takes a number.
-fn moved(c: Counters, op: u8) -> Counters
-    ensures { result ≡ moved c op }
+fn moved(f: &mut Frame, op: u8)
+    ensures { f.new ≡ with_counters f.old (moved (counters_of f.old) op) }
 {
-    Counters {
-        steps: one_more(c.steps),
-        serial: c.serial,
-        nonce: nonce_after(op, c.nonce),
-    }
+    f.steps = one_more(f.steps);
+    f.nonce = nonce_after(op, f.nonce);
 }
 
 // One step more, by which a thread was made.
-fn started(c: Counters) -> Counters
-    ensures { result ≡ started c }
+fn started(f: &mut Frame)
+    ensures { f.new ≡ with_counters f.old (started (counters_of f.old)) }
 {
-    Counters {
-        steps: one_more(c.steps),
-        serial: one_more(c.serial),
-        nonce: c.nonce,
-    }
+    f.steps = one_more(f.steps);
+    f.serial = one_more(f.serial);
 }
 
 // The sender binds label 0, the receiver the value.
-fn rest_handed<'b>(
-    slots: &'b [u64; 12],
-    vars: &mut [u16; 192],
-    c: Counters,
-    lengths: &[u8; 32],
-    i: u8,
-    j: u8,
-    x: u16,
-) -> Counters
-    ensures { held result vars.new ≡ rest_handed slots.now c vars.old lengths.now i j x }
+fn rest_handed(s: &mut Control, m: &Model, i: u8, j: u8, x: u16)
+    ensures { s.new ≡ with_rest s.old (rest_after (rest_of s.old) (rest_handed s.old.frame.slots (counters_of s.old.frame) s.old.vars m.now.lengths i j x)) }
 {
-    let q = slot_at(slots, i);
-    let r = slot_at(slots, j);
-    bound(lengths, vars, i, q, 0);
-    bound(lengths, vars, j, r, x);
-    moved(c, 5)
+    let q = slot_at(&s.frame.slots, i);
+    let r = slot_at(&s.frame.slots, j);
+    bound(&m.lengths, &mut s.vars, i, q, 0);
+    bound(&m.lengths, &mut s.vars, j, r, x);
+    moved(&mut s.frame, 5);
 }
 
-fn rest_reset<'a, 'b>(
-    slots: &'b [u64; 12],
-    locks: &mut [u32; 32],
-    values: &mut [u16; 32],
-    vars: &mut [u16; 192],
-    c: Counters,
-    machines: &'a [u32; 4],
-    locations: &'a [u32; 32],
-    m: u8,
-) -> Counters
-    ensures { rest result locks.new values.new vars.new ≡ rest_reset slots.now (rest c locks.old values.old vars.old) machines.now locations.now m }
+fn rest_reset(s: &mut Control, m: &Model, k: u8)
+    ensures { s.new ≡ with_rest s.old (rest_reset s.old.frame.slots (rest_of s.old) m.now.machines m.now.locations k) }
 {
-    let machine = machine_at(machines, m);
-    locks_reset(locks, locations, m, machine.protected, c.serial);
-    values_reset(values, locations, m);
-    vars_reset(vars, slots, m);
-    started(c)
+    let protected = machine_at(&m.machines, k).protected;
+    locks_reset(
+        &mut s.frame.locks,
+        &m.locations,
+        k,
+        protected,
+        s.frame.serial,
+    );
+    values_reset(&mut s.values, &m.locations, k);
+    vars_reset(&mut s.vars, &s.frame.slots, k);
+    started(&mut s.frame);
 }

@@ -1,10 +1,11 @@
 // Reset, values and variables: RAM of the machine becomes label 0, its registers sinit, disk stays. The variables of the
 // threads that ended are unbound.
+#![tactic(auto, unfolding(crate::specs::Restart::reset_value, crate::specs::Restart::value_reset))]
+
 ghost use Rattle.std.specs.Prelude.{◌≡◌};
 ghost use Rattle.rules.specs.Restart.{reset_value, value_reset, values_reset, vars_reset};
-ghost use Rattle.rules.specs.Parts.{slot_cleared};
 
-use crate::effect::{cleared, known_values, known_vars};
+use crate::effect::cleared;
 use model::records::location_in;
 use state::reset::is_on;
 
@@ -12,30 +13,19 @@ use state::reset::is_on;
 pub fn vars_reset(vars: &mut [u16; 192], slots: &[u64; 12], m: u8)
     ensures { vars.new ≡ vars_reset 0 vars.old slots.now m }
 {
-    known_vars(vars);
-    let mut i = 0;
-    while i < 12 {
-        slot_cleared(vars, i as u8, slots[i], m);
-        i += 1;
-    }
-}
-
-fn slot_cleared(vars: &mut [u16; 192], i: u8, n: u64, m: u8)
-    ensures { vars.new ≡ slot_cleared 0 m vars.old i n }
-{
-    if is_on(n, m) {
-        cleared(vars, i);
+    for (i, slot) in slots.iter().enumerate() {
+        if is_on(*slot, m) {
+            cleared(vars, i as u8);
+        }
     }
 }
 
 pub fn values_reset(values: &mut [u16; 32], locations: &[u32; 32], m: u8)
     ensures { values.new ≡ values_reset 0 1 values.old locations.now m }
 {
-    known_values(values);
-    let mut i = 0;
-    while i < 32 {
-        values[i] = value_reset(values[i], locations[i], m);
-        i += 1;
+    // no zip: a proof knows nothing of what an iter_mut under a zip wrote
+    for (i, value) in values.iter_mut().enumerate() {
+        *value = value_reset(*value, locations[i], m);
     }
 }
 
@@ -55,9 +45,7 @@ fn reset_value(kind: u8, value: u16) -> u16
 {
     match kind {
         0 => 0,
-        1 => value,
-        2 => 1,
-        3 => 1,
+        2 | 3 => 1,
         _ => value,
     }
 }

@@ -19,14 +19,13 @@ use Rattle.rules.specs.Event.{record_of, room_in, record_put}
 use Rattle.rules.specs.Made.{Layout}
 use Rattle.rules.specs.Step.{step_on}
 use Rattle.rules.specs.declared.event.Happening.{Happening}
-use Rattle.rules.specs.declared.inner.Reply.{Reply}
-use Rattle.rules.specs.declared.inner.Reply.TheVariants as R
-use Rattle.rules.specs.declared.inner.Stepped.{Stepped}
+use Rattle.rules.specs.Reply.{Reply, Stepped}
+use Rattle.rules.specs.Reply as R
 use Rattle.law.specs.Machines.{LabelsConf, conf}
 use Rattle.machine.specs.Recorded.{is_real, Holds, Left, left}
 use Rattle.runs.specs.Run.{outcome, ran, permitted_on, turn_on, turn_from, one_turn, Course, course, go_by, steps_from}
 use Rattle.runs.specs.Fold.{answered, replied, after_step, Folded, folded, with_answer, fold_by, fold_steps, Folds}
-use Rattle.runs.specs.declared.run.Outcome.{Outcome}
+use Rattle.runs.specs.Run.{Outcome}
 use Rattle.machine.proofs.Recording.{twelve, put_long, put_past, holds_put}
 use Rattle.machine.proofs.Real.{KnownOps}
 use Rattle.runs.proofs.Stepping.{Stepping, refused, permitted, step_gives}

@@ -30,9 +30,9 @@ use Rattle.rules.specs.Made.{Layout, Config, config_of, jumped_on, acted_on, lau
 use Rattle.rules.specs.Step.{stepped, refused_step, go_worked, go_on, step_on}
 use Rattle.rules.specs.declared.event.Happening.{Happening}
 use Rattle.rules.specs.declared.work.Labels.{Labels}
-use Rattle.rules.specs.declared.work.Worked.{Worked}
-use Rattle.rules.specs.declared.inner.Reply.TheVariants as R
-use Rattle.rules.specs.declared.inner.Stepped.{Stepped}
+use Rattle.rules.specs.Worked.{Worked}
+use Rattle.rules.specs.Reply as R
+use Rattle.rules.specs.Reply.{Stepped}
 use Rattle.rules.proofs.Back as B
 use Rattle.machine.specs.Recorded.{is_real}
 use Rattle.machine.proofs.Real.{KnownOps, happened_real}

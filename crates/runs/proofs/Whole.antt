@@ -19,13 +19,13 @@ use Rattle.model.specs.declared.records.Model.{Model}
 use Rattle.state.specs.declared.control.Control.{Control}
 use Rattle.rules.specs.Event.{room_in}
 use Rattle.rules.specs.declared.event.Happening.{Happening}
-use Rattle.rules.specs.declared.inner.Reply.TheVariants.{Permitted}
+use Rattle.rules.specs.Reply.{Permitted}
 use Rattle.audit.specs.Models.{sound_model}
 use Rattle.audit.specs.Configuration.{table_sound, sound_control}
 use Rattle.audit.specs.Sound.{SoundModel}
 use Rattle.audit.proofs.Check.{test_model}
 use Rattle.audit.proofs.Standing.{steps_right}
-use Rattle.law.specs.Rules.{layout_of}
+use Rattle.rules.specs.Made.{layout_of}
 use Rattle.law.specs.Machines.{conf}
 use Rattle.machine.specs.Claim.{first_break, accepts_all}
 use Rattle.machine.specs.Judge.{first_break_on, accepts_on}

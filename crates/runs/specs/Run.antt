@@ -1,25 +1,26 @@
 -- A run: codes are tried one after the other. "A refused step leaves the run going. A permitted step whose event finds the
 -- table full stops the run with 12, before that step is made. Records past those written stay as lent."
-use Rattle.std.specs.Prelude.{ℕ, ◌+◌, ◌≤◌, List, [], ◌∷◌, ◌≡◌, length, take, set, eqb, ltb, leb}
+use Rattle.std.specs.Prelude.{ℕ, ◌+◌, List, [], ◌∷◌, length, take, set, eqb, ltb, leb}
 use Rattle.terms.specs.Base.{pick, filled, Held, held}
 use Rattle.terms.specs.Table.{cut_to}
 use Rattle.model.specs.declared.records.Model.{Model}
 use Rattle.state.specs.Control.{one_more}
 use Rattle.state.specs.declared.control.Control.{Control}
 use Rattle.rules.specs.Event.{record_of, room_in, record_put}
-use Rattle.rules.specs.Made.{Layout}
+use Rattle.rules.specs.Made.{Layout, layout_of}
 use Rattle.rules.specs.Step.{step_on}
 use Rattle.rules.specs.declared.event.Happening.{Happening}
-use Rattle.rules.specs.declared.inner.Reply.{Reply}
-use Rattle.rules.specs.declared.inner.Reply.TheVariants.{Refused, Permitted}
-use Rattle.rules.specs.declared.inner.Stepped.{Stepped}
-use Rattle.law.specs.Rules.{layout_of}
+use Rattle.rules.specs.Reply.{Reply, Refused, Permitted, Stepped}
 use Rattle.machine.specs.Recorded.{Left, left}
 use Rattle.machine.specs.Step.{is_sound}
 use Rattle.runs.specs.declared.run.Ran.{Ran}
-use Rattle.runs.specs.declared.run.Outcome.{Outcome}
 
 -- the answer to one code, 0 where it is permitted, the configuration then, and the number of events recorded
+pub record Outcome : Type 0 where
+  pub number : ℕ
+  pub control : Control
+  pub events : ℕ
+
 abbrev pub outcome : ℕ → Control → ℕ → Outcome
 outcome number s events = record { number = number; control = s; events = events }
 
@@ -75,11 +76,6 @@ steps_from (code ∷ codes) i g k l ans rs s events =
 
 unfoldable pub shorter : ℕ → ℕ → ℕ
 shorter m n = pick (ltb m n) m n
-
-pub record Shorter (m n r : ℕ) : Type 0 where
-  pub is : r ≡ shorter m n
-  pub first : r ≤ m
-  pub second : r ≤ n
 
 -- as many codes are tried as there are answers for
 abbrev pub tried_of : List ℕ → List ℕ → List ℕ

@@ -12,16 +12,17 @@ use Rattle.state.specs.Code.{codes_below, code_after}
 use Rattle.state.specs.Early.{sight_of}
 use Rattle.state.specs.Seek.{seek_from}
 use Rattle.state.proofs.Codes.{below_over}
+use Rattle.model.specs.declared.records.Model.{Model}
 use Rattle.state.specs.declared.control.Control.{Control}
 use Rattle.rules.specs.Happened.{ended_on}
 use Rattle.rules.specs.Work.{work_on}
 use Rattle.rules.specs.declared.work.Labels.{Labels}
-use Rattle.rules.specs.declared.work.Worked.{Worked}
-use Rattle.rules.specs.declared.work.Worked.TheVariants as W
+use Rattle.rules.specs.Worked.{Worked}
+use Rattle.rules.specs.Worked as W
 use Rattle.machine.specs.Judge.{broken_by}
 use Rattle.search.specs.Place.{at_code, pushed}
-use Rattle.search.specs.Turn.{between, reached, closed, past, one_sized, refused_by, found_on, still, entering}
-use Rattle.search.specs.Turn.{Lent, lent, lent_found, Sheets, tried_by, tried_with, passing, seeking, turn_on}
+use Rattle.search.specs.Turn.{goes, enters, between, reached, closed, past, one_sized, refused_by, found_on, still, entering}
+use Rattle.search.specs.Turn.{Lent, lent, lent_found, tried_by, tried_with, passing, seeking, turn_on}
 use Rattle.search.specs.declared.place.Place.{Place}
 use Rattle.search.specs.declared.answer.Kind.{Kind}
 use Rattle.search.specs.declared.answer.Kind.TheVariants.{Stop, End}
@@ -31,7 +32,7 @@ use Rattle.search.specs.declared.turn.Task.{Task}
 
 -- how many turns a walk can still take
 abbrev pub turns_left : Walk → ℕ
-turns_left w = pick w.going (w.left + 1) 0
+turns_left w = pick (goes w) (w.left + 1) 0
 
 turns_by : (b : Bool) (n i : ℕ) → i < n → pick b (i + 1) 0 < n + 1
 turns_by true n i h = omega arith
@@ -39,7 +40,7 @@ turns_by false n i h = omega arith
 
 -- a walk with less left takes fewer
 pub turns_fall : (w : Walk) (n : ℕ) → w.left < n → turns_left w < n + 1
-turns_fall w n h = turns_by w.going n w.left h
+turns_fall w n h = turns_by (goes w) n w.left h
 
 none_by : (b : Bool) (n i : ℕ) → b ≡ false → pick b (i + 1) 0 < n + 1
 none_by b n i e = rw e (omega arith)
@@ -85,19 +86,19 @@ done_by true a b n p q = p
 done_by false a b n p q = q
 
 -- a try, refused or permitted, spends what going past the code spends
-pub tried_left : (r : Worked) (t l room : List ℕ) (s : Control) (v : Walk) (p : Place) (g : Sheets) (code : ℕ) (k : Task)
+pub tried_left : (r : Worked) (t l room : List ℕ) (s : Control) (v : Walk) (p : Place) (g : Model) (code : ℕ) (k : Task)
     → (tried_by r t l room s v p g code k).out.walk.left ≡ v.left
 tried_left (W.Refused n) t l room s v p g code k = refused_left v n
 tried_left (W.Done b) t l room s v p g code k =
     done_by
-    (broken_by l p.length (ended_on s.frame.slots g.actions g.lengths code) k.claim)
+    (broken_by l p.length (ended_on s.frame.slots g.actions g.lengths code) g.claim)
     (lent_found (found_on room v (pushed p code) b.count) t l)
     (lent (entering v p.length code b k.bound) t l room)
     v.left
     (found_left room v (pushed p code) b.count)
     (entering_left v p.length code b k.bound)
 
-closed_ends : (w : Walk) (p : Place) (n : ℕ) (kind : Kind) → (closed w p n kind).going ≡ false
+closed_ends : (w : Walk) (p : Place) (n : ℕ) (kind : Kind) → goes (closed w p n kind) ≡ false
 unfolding closed
 closed_ends w p n kind = refl
 
@@ -107,7 +108,7 @@ past_left w next n = refl
 
 module _ (w : Walk) where
   closed_turns : (p : Place) (n : ℕ) (kind : Kind) → turns_left (closed w p n kind) < w.left + 1
-  closed_turns p n kind = none_by (closed w p n kind).going w.left (closed w p n kind).left (closed_ends w p n kind)
+  closed_turns p n kind = none_by (goes (closed w p n kind)) w.left (closed w p n kind).left (closed_ends w p n kind)
 
   fewer : (n : ℕ) → (w.left ≡ n → ⊥) → n ≤ w.left → w.left - (n + 1) < w.left
   fewer n u o = omega arith
@@ -131,16 +132,16 @@ module _ (w : Walk) where
 
   enter_by : (x y z : Bool) (n : ℕ) (a b c d : Lent Turned)
       → ltb w.left n ≡ x → eqb w.left n ≡ z
-      → a.out.enters ≡ false → b.out.enters ≡ false → c.out.enters ≡ false
+      → (enters a.out) ≡ false → (enters b.out) ≡ false → (enters c.out) ≡ false
       → d.out.walk.left ≡ w.left - (n + 1)
-      → (pick x a (pick y b (pick z c d))).out.enters ≡ true
+      → enters (pick x a (pick y b (pick z c d))).out ≡ true
       → (pick x a (pick y b (pick z c d))).out.walk.left < w.left
-  enter_by true y z n a b c d p r e f g i h = absurd (clash a.out.enters e h)
-  enter_by false true z n a b c d p r e f g i h = absurd (clash b.out.enters f h)
-  enter_by false false true n a b c d p r e f g i h = absurd (clash c.out.enters g h)
+  enter_by true y z n a b c d p r e f g i h = absurd (clash (enters a.out) e h)
+  enter_by false true z n a b c d p r e f g i h = absurd (clash (enters b.out) f h)
+  enter_by false false true n a b c d p r e f g i h = absurd (clash (enters c.out) g h)
   enter_by false false false n a b c d p r e f g i h = rw i (fewer n (eqb-false w.left n r) (ltb-false w.left n p))
 
-  module _ (t l room : List ℕ) (s : Control) (g : Sheets) (k : Task) where
+  module _ (t l room : List ℕ) (s : Control) (g : Model) (k : Task) where
     passing_turns : (n code : ℕ) → (164 ≤ code → 0 < n) → turns_left (passing n code t l room s w g k).out.walk < w.left + 1
     passing_turns n code h =
         let q : Place = at_code w.place (reached w.place.next w.left) in
@@ -172,9 +173,9 @@ module _ (w : Walk) where
 
     pub turn_falls : turns_left (turn_on t l room s w g k).out.walk < w.left + 1
     unfolding turn_on
-    turn_falls = turn_by (leb 164 w.place.next) (seek_from (sight_of s.frame g.actions g.locations k.machines) w.place.next) refl
+    turn_falls = turn_by (leb 164 w.place.next) (seek_from (sight_of s.frame g.actions g.locations g.machine_count) w.place.next) refl
 
-    passing_enters : (n code : ℕ) → (passing n code t l room s w g k).out.enters ≡ true → (passing n code t l room s w g k).out.walk.left < w.left
+    passing_enters : (n code : ℕ) → enters (passing n code t l room s w g k).out ≡ true → (passing n code t l room s w g k).out.walk.left < w.left
     passing_enters n code =
         let q : Place = at_code w.place (reached w.place.next w.left) in
         let r : Held Worked = work_on (cut_to t s.count w.filled) s g.actions code in
@@ -196,12 +197,12 @@ module _ (w : Walk) where
         (tried_left r.out r.table l room s v w.place g code k ∙ past_left w (code_after code) (n + 1))
 
     enters_by : (x : Bool) (code : ℕ)
-        → (pick x (lent (still (closed w w.place 0 End)) t l room) (seeking code t l room s w g k)).out.enters ≡ true
+        → enters (pick x (lent (still (closed w w.place 0 End)) t l room) (seeking code t l room s w g k)).out ≡ true
         → (pick x (lent (still (closed w w.place 0 End)) t l room) (seeking code t l room s w g k)).out.walk.left < w.left
     enters_by true code h = absurd (clash false refl h)
     enters_by false code h = passing_enters (between w.place.next code) code h
 
     -- a turn that enters a schedule spends
-    pub turn_enters : (turn_on t l room s w g k).out.enters ≡ true → (turn_on t l room s w g k).out.walk.left < w.left
+    pub turn_enters : enters (turn_on t l room s w g k).out ≡ true → (turn_on t l room s w g k).out.walk.left < w.left
     unfolding turn_on
-    turn_enters = enters_by (leb 164 w.place.next) (seek_from (sight_of s.frame g.actions g.locations k.machines) w.place.next)
+    turn_enters = enters_by (leb 164 w.place.next) (seek_from (sight_of s.frame g.actions g.locations g.machine_count) w.place.next)

@@ -16,9 +16,9 @@ use Rattle.state.specs.Control.{fresh_control}
 use Rattle.state.specs.declared.control.Control.{Control}
 use Rattle.state.proofs.Threads.{never}
 use Rattle.rules.specs.Event.{record_of, record_put}
-use Rattle.rules.specs.Made.{control_after}
+use Rattle.rules.specs.Made.{control_after, layout_of}
 use Rattle.rules.specs.declared.event.Happening.{Happening}
-use Rattle.rules.specs.declared.inner.Stepped.{Stepped}
+use Rattle.rules.specs.Reply.{Stepped}
 use Rattle.rules.specs.declared.work.Labels.{Labels}
 use Rattle.machine.specs.Claim.{breaks_claim}
 use Rattle.machine.specs.Judge.{breaks_on}
@@ -32,17 +32,16 @@ use Rattle.walk.proofs.Array.{length_stack}
 use Rattle.walk.proofs.Loop.{ZeroPast, push_zero}
 use Rattle.quiet.specs.Quiet.{deepest_in, deepest}
 use Rattle.quiet.proofs.Bounds.{Bounds, deeper_bounds}
-use Rattle.law.specs.Rules.{layout_of}
 use Rattle.law.specs.Machines.{LabelsConf}
 use Rattle.tries.specs.Labels.{try_code, labels}
 use Rattle.tries.proofs.Along.{Sane, work_at, event_at, conf_at, Went, no, yes, step_went, went_code, at_sane, at_grows, at_long}
 use Rattle.tries.proofs.Judging.{Judging}
 use Rattle.search.specs.Place.{place, start_place, at_code, code_in, pushed}
-use Rattle.search.specs.Enter.{no_control, went_on, Climb, climb, entered, on_good, enter_step, enter_in, enter_on}
+use Rattle.search.specs.Enter.{no_control, goes_on, Climb, climb, entered, on_good, enter_step, enter_in, enter_on}
 use Rattle.search.specs.Search.{deeps_of}
 use Rattle.search.specs.Shown.{padded, tidied}
 use Rattle.search.specs.declared.place.Place.{Place}
-use Rattle.search.specs.declared.enter.Entered.{Entered}
+use Rattle.search.specs.Enter.{Entered}
 use Rattle.search.proofs.JoinPlace.{spot, push_is}
 use Rattle.search.proofs.JoinStand.{there, Parts}
 use Rattle.search.proofs.JoinRoom.{clean_padded}
@@ -201,7 +200,7 @@ module _ (m : Model) (start : Sane (labels m).fresh) (J : Judging m) (p : Place)
   by_went : (d i : ℕ) (l : d + suc i ≡ p.length) (h : i < p.length) (x : Climb) (v : Entry i x) (rest : Climb → Left Entered) →
       ((y : Climb) → Entry (suc i) y → Enters (rest y)) → {r : Held Stepped} → Went m (c i h x v) (code i h x v) r →
       Enters (enter_step r rest m.claim i (code i h x v) x)
-  unfolding went_on
+  unfolding goes_on
   by_went d i l h x v rest ih (no n s t e) =
       let y : Climb = climb (set x.stack (i % 24 + 1) s) (pushed x.place (code i h x v)) t x.records in
       fails d i l (not_on i h x v e) y.place y

@@ -17,10 +17,10 @@ use Rattle.state.specs.Code.{is_code, code_after}
 use Rattle.state.specs.declared.control.Control.{Control}
 use Rattle.state.proofs.Threads.{never}
 use Rattle.rules.specs.Event.{record_of, record_put}
-use Rattle.rules.specs.Made.{control_after}
+use Rattle.rules.specs.Made.{control_after, layout_of}
 use Rattle.rules.specs.declared.event.Happening.{Happening}
 use Rattle.rules.specs.declared.work.Labels.{Labels}
-use Rattle.rules.specs.declared.work.Worked.TheVariants as W
+use Rattle.rules.specs.Worked as W
 use Rattle.machine.specs.Claim.{breaks_claim}
 use Rattle.walk.specs.Machine.{Machine}
 use Rattle.walk.specs.Machine as O
@@ -33,7 +33,6 @@ use Rattle.walk.proofs.Loop.{push_zero}
 use Rattle.walk.proofs.List.{list_whole}
 use Rattle.quiet.specs.Quiet.{deepest, outline_of, all_near, shallow}
 use Rattle.quiet.proofs.Bounds.{Bounds, deeper_grown}
-use Rattle.law.specs.Rules.{layout_of}
 use Rattle.law.specs.Machines.{LabelsConf}
 use Rattle.tries.specs.Labels.{real_codes, try_code, labels}
 use Rattle.tries.proofs.Codes.{codes_long, from_after, labels_coded}
@@ -42,7 +41,7 @@ use Rattle.tries.proofs.Judging.{Judging}
 use Rattle.search.specs.Place.{at_code}
 use Rattle.search.specs.Enter.{no_control}
 use Rattle.search.specs.Turn.{walk, between, past, stands_at, turned, lent}
-use Rattle.search.specs.Search.{Scene, scene, sheets_of, quiet_at, passes_soon, passes_late, spent_all, scene_after, turned_on, task}
+use Rattle.search.specs.Search.{Scene, scene, quiet_at, passes_soon, passes_late, spent_all, scene_after, turned_on, task}
 use Rattle.search.specs.Shown.{spot_of}
 use Rattle.search.specs.declared.answer.Kind.TheVariants.{Found, End}
 use Rattle.search.specs.declared.turn.Walk.{Walk}
@@ -300,6 +299,6 @@ module _ {m : Model} {start : Sane (labels m).fresh} {J : Judging m} {n B : ℕ}
       pub at_entered : Turns m start J n B x (turned_on m k x)
       at_entered =
           subst (Turns m start J n B x)
-          (sym (turned_is v _ (T.turn_enter x.table x.records x.room s x.walk (sheets_of m) k a.low a.enough
+          (sym (turned_is v _ (T.turn_enter x.table x.records x.room s x.walk m k a.low a.enough
           (work_at m c code) b a.high a.more (cut_is a) o (judged a b o ∙ e) (omega arith)) ∙ entered_is))
           (by_tests soon late refl refl)

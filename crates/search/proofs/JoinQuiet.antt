@@ -9,9 +9,7 @@ use Rattle.model.specs.Fields.{either}
 use Rattle.model.specs.declared.records.Model.{Model}
 use Rattle.state.specs.declared.control.Control.{Control}
 use Rattle.rules.specs.Step.{step_on}
-use Rattle.rules.specs.declared.inner.Reply.{Reply}
-use Rattle.rules.specs.declared.inner.Reply.TheVariants.{Refused, Permitted}
-use Rattle.rules.specs.declared.inner.Stepped.{Stepped}
+use Rattle.rules.specs.Reply.{Reply, Refused, Permitted, Stepped}
 use Rattle.audit.specs.Sound.{SoundModel}
 use Rattle.audit.specs.Models.{sound_model}
 use Rattle.audit.specs.Whole.{SoundConfig}
@@ -20,7 +18,7 @@ use Rattle.audit.proofs.Check.{test_model}
 use Rattle.machine.specs.Claim.{breaks_claim}
 use Rattle.walk.specs.Machine as O
 use Rattle.walk.specs.Place.{landed, at}
-use Rattle.law.specs.Rules.{layout_of}
+use Rattle.rules.specs.Made.{layout_of}
 use Rattle.law.specs.Machines.{LabelsConf, tried_by}
 use Rattle.law.proofs.KeptFresh.{fresh_passes}
 use Rattle.law.proofs.KeptStep.{step_sound}

@@ -1,7 +1,8 @@
 -- How the program stands along its walk, the listing that is still to come there, and what a turn has to come to: it closes the
 -- walk as the listing closes, or goes on with as much to list, or with one schedule less.
+use Rattle.std.specs.Prelude.{is_none}
 use Prim.Native.Nat.{ℕ, suc, ◌+◌, ◌-◌, ◌%◌, ◌<◌, ◌≤◌}
-use mathlib.Core.Bool.{true, false}
+use mathlib.Core.Bool.{Bool, true, false}
 use mathlib.Core.List.{List, [], ◌∷◌}
 use mathlib.Core.Path.{◌≡◌, refl, sym, ap, ◌∙◌, subst}
 use native.Mathlib.Omega.{arith}
@@ -28,14 +29,23 @@ use Rattle.tries.proofs.Along.{Sane, sight_at, try_early}
 use Rattle.tries.proofs.Judging.{Judging}
 use Rattle.search.specs.Answer.{room_for}
 use Rattle.search.specs.Enter.{no_control}
-use Rattle.search.specs.Turn.{between, Lent, turn_on}
-use Rattle.search.specs.Search.{Scene, sheets_of, scene_after, turned_on, task}
+use Rattle.search.specs.Turn.{goes, answer_if, kind_or, answered, between, Lent, turn_on}
+use Rattle.search.specs.Search.{Scene, scene_after, turned_on, task}
 use Rattle.search.specs.Shown.{spot_of, kind_of, word_put, words_put}
 use Rattle.search.specs.declared.answer.Kind.TheVariants.{Found}
 use Rattle.search.specs.declared.turn.Turned.{Turned}
 use Rattle.search.specs.declared.turn.Task.{Task}
 use Rattle.search.proofs.JoinStand.{Parts, Stands, stands_from}
 use Rattle.search.proofs.JoinRoom.{words_none}
+
+-- a walk that goes on where b holds, and else answers found
+pub goes_if : (b : Bool) → is_none (answer_if b Found) ≡ b
+goes_if true = refl
+goes_if false = refl
+
+pub found_if : (b : Bool) → kind_or (answer_if b Found) ≡ Found
+found_if true = refl
+found_if false = refl
 
 -- the configuration that the walk stands at, and the code that is let through there, or 164
 abbrev pub conf_of : Model → Scene → LabelsConf
@@ -53,8 +63,8 @@ pub record Inv (m : Model) (start : Sane (labels m).fresh) (J : Judging m) (n B 
   pub left : x.walk.left ≤ B
   pub sized : x.walk.sized + x.walk.left ≤ B
   pub found : x.walk.found + x.walk.left ≤ B
-  pub going : x.walk.going ≡ ltb x.walk.found (room_for x.room)
-  pub kind : x.walk.going ≡ false → x.walk.kind ≡ Found
+  pub going : (goes x.walk) ≡ ltb x.walk.found (room_for x.room)
+  pub kind : (goes x.walk) ≡ false → (answered x.walk) ≡ Found
   pub records : length x.records ≡ 288
   pub stack : length x.stack ≡ 25
   pub deeps : length x.deeps ≡ 25
@@ -66,7 +76,7 @@ list_of m n B x =
 
 -- what the program has come to, y, shows the listing from x on
 pub record Shows (B : ℕ) (x y : Scene) (l : Listed Spot) : Type 0 where
-  pub kind : y.walk.kind ≡ kind_of l.close
+  pub kind : (answered y.walk) ≡ kind_of l.close
   pub place : spot_of y.walk.place ≡ l.place
   pub tries : B - y.walk.left ≡ l.tries
   pub sizes : y.walk.sized ≡ l.sizes
@@ -75,7 +85,7 @@ pub record Shows (B : ℕ) (x y : Scene) (l : Listed Spot) : Type 0 where
 
 -- a turn closes the walk, or leaves it going with as much to list, or with one schedule less
 pub data Turns (m : Model) (start : Sane (labels m).fresh) (J : Judging m) (n B : ℕ) (x y : Scene) : Type 0 where
-  closes : y.walk.going ≡ false → Shows B x y (list_of m n B x) → Turns m start J n B x y
+  closes : (goes y.walk) ≡ false → Shows B x y (list_of m n B x) → Turns m start J n B x y
   goes_on : Inv m start J n B y → y.walk.left < x.walk.left → list_of m n B x ≡ list_of m n B y → y.room ≡ x.room →
       y.walk.found ≡ x.walk.found → Turns m start J n B x y
   meets : (w : List ℕ) → Inv m start J n B y → y.walk.left < x.walk.left → list_of m n B x ≡ with_words (w ∷ []) (list_of m n B y) →
@@ -114,7 +124,7 @@ module _ {m : Model} {start : Sane (labels m).fresh} {J : Judging m} {n B : ℕ}
   parts = v.stands.parts
 
   -- a turn at the configuration there
-  pub turned_is : (a : Lent Turned) → turn_on x.table x.records x.room s x.walk (sheets_of m) k ≡ a →
+  pub turned_is : (a : Lent Turned) → turn_on x.table x.records x.room s x.walk m k ≡ a →
       turned_on m k x ≡ scene_after m k a x.walk.place s (get_or x.deeps j 0) j x.stack x.deeps
   unfolding turned_on
   turned_is a e =
@@ -126,7 +136,7 @@ module _ {m : Model} {start : Sane (labels m).fresh} {J : Judging m} {n B : ℕ}
   pub inv_on : (y : Scene) (d : ℕ) → spot_of y.walk.place ≡ settled_in M cs j (from d real_codes) →
       Parts m start J y.stack y.deeps y.table y.walk.filled y.records cs j →
       y.walk.left ≤ x.walk.left → y.walk.sized + y.walk.left ≤ B → y.walk.found + y.walk.left ≤ B →
-      y.walk.going ≡ ltb y.walk.found (room_for y.room) → (y.walk.going ≡ false → y.walk.kind ≡ Found) →
+      (goes y.walk) ≡ ltb y.walk.found (room_for y.room) → ((goes y.walk) ≡ false → (answered y.walk) ≡ Found) →
       length y.records ≡ 288 → length y.stack ≡ 25 → length y.deeps ≡ 25 → Inv m start J n B y
   inv_on y d e p a b f g h i l o = record {
     bound = v.bound;
@@ -147,15 +157,15 @@ module _ {m : Model} {start : Sane (labels m).fresh} {J : Judging m} {n B : ℕ}
   }
 
   -- the walk closes at a place
-  pub closes_with : (y : Scene) (e : Close) (q : Spot) (t : ℕ) → list_of m n B x ≡ S.closed e t x.walk.sized q → y.walk.going ≡ false →
-      y.walk.kind ≡ kind_of e → spot_of y.walk.place ≡ q → B - y.walk.left ≡ t → y.walk.sized ≡ x.walk.sized →
+  pub closes_with : (y : Scene) (e : Close) (q : Spot) (t : ℕ) → list_of m n B x ≡ S.closed e t x.walk.sized q → (goes y.walk) ≡ false →
+      (answered y.walk) ≡ kind_of e → spot_of y.walk.place ≡ q → B - y.walk.left ≡ t → y.walk.sized ≡ x.walk.sized →
       y.walk.found ≡ x.walk.found → y.room ≡ x.room → Turns m start J n B x y
   closes_with y e q t l g k p a b d f =
       closes g
       (subst (Shows B x y) (sym l)
       (record { kind = k; place = p; tries = a; sizes = b; found = d ∙ omega arith; room = f ∙ sym (words_none x.room x.walk.found) }))
 
-  module _ (run : x.walk.going ≡ true) where
+  module _ (run : (goes x.walk) ≡ true) where
     pub some_room : room_for x.room - x.walk.found ≡ suc (room_after x)
     some_room = let h : x.walk.found < room_for x.room = ltb-true _ _ (sym v.going ∙ run) in omega arith
 

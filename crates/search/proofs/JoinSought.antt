@@ -26,8 +26,8 @@ use Rattle.tries.proofs.Codes.{is_next, below_small, code_below, below_orders, b
 use Rattle.tries.proofs.Along.{Sane, sight_at}
 use Rattle.tries.proofs.Judging.{Judging}
 use Rattle.search.specs.Place.{place, at_code, settled}
-use Rattle.search.specs.Turn.{walk, between, reached, closed, past}
-use Rattle.search.specs.Search.{Scene, scene, sheets_of, turned_on, task}
+use Rattle.search.specs.Turn.{goes, walk, between, reached, closed, past}
+use Rattle.search.specs.Search.{Scene, scene, turned_on, task}
 use Rattle.search.specs.Shown.{spot_of}
 use Rattle.search.specs.declared.place.Place.{Place}
 use Rattle.search.specs.declared.answer.Kind.TheVariants.{Stop, End}
@@ -60,13 +60,13 @@ high_next d h l = let e : d ≡ 164 = omega arith in rw e none_next
 -- the walk comes to a code, and has budget to try it
 pub record Tries (m : Model) (start : Sane (labels m).fresh) (J : Judging m) (n B : ℕ) (x : Scene) : Type 0 where
   pub inv : Inv m start J n B x
-  pub run : x.walk.going ≡ true
+  pub run : (goes x.walk) ≡ true
   pub low : x.walk.place.next < 164
   pub enough : between x.walk.place.next (let_of m x) ≤ x.walk.left
   pub high : let_of m x < 164
   pub more : x.walk.left ≡ between x.walk.place.next (let_of m x) → ⊥
 
-module _ {m : Model} {start : Sane (labels m).fresh} {J : Judging m} {n B : ℕ} {x : Scene} (v : Inv m start J n B x) (run : x.walk.going ≡ true) where
+module _ {m : Model} {start : Sane (labels m).fresh} {J : Judging m} {n B : ℕ} {x : Scene} (v : Inv m start J n B x) (run : (goes x.walk) ≡ true) where
   abbrev M : Machine
   M = labels m
 
@@ -105,7 +105,7 @@ module _ {m : Model} {start : Sane (labels m).fresh} {J : Judging m} {n B : ℕ}
       let e : eqb nx 164 ≡ true = eq-eqb nx 164 (next_high nx v.stands.next h) in
       let l : list_of m n B x ≡ S.closed done (B - w.left) w.sized (spot_of w.place) =
       rw (some_room v run) (list_over M n (spot_of w.place) r (B - w.left) w.sized w.left e) in
-      subst (Turns m start J n B x) (sym (turned_is v _ (T.turn_end x.table x.records x.room s w (sheets_of m) k h)))
+      subst (Turns m start J n B x) (sym (turned_is v _ (T.turn_end x.table x.records x.room s w m k h)))
       (closes_with v
       (scene (walk w.place (w.left - 0) w.sized w.found w.filled false End) x.stack x.deeps x.table x.records x.room) done
       (spot_of w.place) (B - w.left) l refl refl refl (omega arith) refl refl refl)
@@ -136,7 +136,7 @@ module _ {m : Model} {start : Sane (labels m).fresh} {J : Judging m} {n B : ℕ}
         let l : list_of m n B x ≡ S.closed spent (B - w.left + w.left) w.sized (spot cs j d) =
         (rw (len, z, settle_code m cs j d dc) at sk) ∙ list_spent M n (spot cs j d) r (B - w.left + w.left) w.sized
         (ne_eqb d 164 (λ q. omega (arith, code_low d dc))) in
-        subst (Turns m start J n B x) (sym (turned_is v _ (T.turn_out x.table x.records x.room s w (sheets_of m) k low h)))
+        subst (Turns m start J n B x) (sym (turned_is v _ (T.turn_out x.table x.records x.room s w m k low h)))
         (closes_with v
         (scene (walk (place cs j (code_from (codes_below nx + w.left % 256))) (w.left - w.left) w.sized w.found w.filled false Stop)
         x.stack x.deeps x.table x.records x.room)
@@ -171,7 +171,7 @@ module _ {m : Model} {start : Sane (labels m).fresh} {J : Judging m} {n B : ℕ}
           let i : Inv m start J n B y =
           inv_on v y code e (parts v) (omega arith) (omega (arith, v.sized)) (omega (arith, v.found)) (sym run ∙ v.going)
           (λ f. absurd (never true refl f)) v.records v.stack v.deeps in
-          subst (Turns m start J n B x) (sym (turned_is v _ (T.turn_none x.table x.records x.room s w (sheets_of m) k low enough h)))
+          subst (Turns m start J n B x) (sym (turned_is v _ (T.turn_none x.table x.records x.room s w m k low enough h)))
           (goes_on i (omega arith) l refl refl)
 
       module _ (high : code < 164) where
@@ -194,7 +194,7 @@ module _ {m : Model} {start : Sane (labels m).fresh} {J : Judging m} {n B : ℕ}
             let z : w.left - u ≡ 0 = omega arith in
             let l : list_of m n B x ≡ S.closed spent (B - w.left + u) w.sized (spot cs j code) =
             (rw (z, settle_code m cs j code code_real) at reach) ∙ list_spent M n (spot cs j code) r (B - w.left + u) w.sized not_none in
-            subst (Turns m start J n B x) (sym (turned_is v _ (T.turn_stop x.table x.records x.room s w (sheets_of m) k low enough high e)))
+            subst (Turns m start J n B x) (sym (turned_is v _ (T.turn_stop x.table x.records x.room s w m k low enough high e)))
             (closes_with v
             (scene (walk (place cs j code) (w.left - u) w.sized w.found w.filled false Stop)
             x.stack x.deeps x.table x.records x.room)

@@ -24,8 +24,8 @@ use Rattle.rules.specs.Happened.{ended_on}
 use Rattle.rules.specs.Work.{work_on}
 use Rattle.rules.specs.declared.event.Happening.{Happening}
 use Rattle.rules.specs.declared.work.Labels.{Labels}
-use Rattle.rules.specs.declared.work.Worked.{Worked}
-use Rattle.rules.specs.declared.work.Worked.TheVariants as W
+use Rattle.rules.specs.Worked.{Worked}
+use Rattle.rules.specs.Worked as W
 use Rattle.rules.proofs.Back.{WorkKept, work_kept, work_back}
 use Rattle.rules.proofs.Back as K
 use Rattle.rules.proofs.Parts.{happened_ended}
@@ -47,7 +47,7 @@ use Rattle.tries.proofs.Judging.{Judging}
 use Rattle.search.specs.Place.{place, at_code, pushed, settled}
 use Rattle.search.specs.Answer.{room_for}
 use Rattle.search.specs.Turn.{walk, between, one_try_more, past, one_sized, refused_by, found_on, still, lent}
-use Rattle.search.specs.Search.{Scene, scene, sheets_of, scene_after, turned_on, task}
+use Rattle.search.specs.Search.{Scene, scene, scene_after, turned_on, task}
 use Rattle.search.specs.Shown.{spot_of, word_put}
 use Rattle.search.specs.declared.place.Place.{Place}
 use Rattle.search.specs.declared.answer.Kind.TheVariants.{Found, End}
@@ -55,7 +55,7 @@ use Rattle.search.specs.declared.turn.Task.{Task}
 use Rattle.search.proofs.JoinPlace.{spot, settle_code, settle_is, push_is}
 use Rattle.search.proofs.JoinStand.{Parts}
 use Rattle.search.proofs.JoinRoom.{put_is, room_kept}
-use Rattle.search.proofs.JoinShows.{conf_of, let_of, Inv, list_of, Turns, goes_on, meets, room_after}
+use Rattle.search.proofs.JoinShows.{goes_if, found_if, conf_of, let_of, Inv, list_of, Turns, goes_on, meets, room_after}
 use Rattle.search.proofs.JoinShows.{j_small, parts, turned_is, inv_on, some_room}
 use Rattle.search.proofs.JoinSought.{Tries, reach, code_real, not_none}
 use Rattle.search.proofs.JoinTurn as T
@@ -218,7 +218,7 @@ module _ {m : Model} {start : Sane (labels m).fresh} {J : Judging m} {n B : ℕ}
     unfolding refused_by
     at_refused =
         subst (Turns m start J n B x)
-        (sym (turned_is v _ (T.turn_refused x.table x.records x.room s x.walk (sheets_of m) k a.low a.enough
+        (sym (turned_is v _ (T.turn_refused x.table x.records x.room s x.walk m k a.low a.enough
         (work_at m c code) i a.high a.more cut_is o)))
         (by_number (eqb i 8) (eqb i 9) (try_refused m c code i lets o))
 
@@ -287,12 +287,13 @@ module _ {m : Model} {start : Sane (labels m).fresh} {J : Judging m} {n B : ℕ}
         let t : try_code m c code ≡ O.breaks = try_done m c code b lets o ∙ rw e in
         let i : Inv m start J n B found_scene =
         inv_on v found_scene (code_after code) after_is parts_on (omega (arith, fewer)) (omega (arith, v.sized, fewer))
-        (omega (arith, v.found, a.more, a.enough)) refl
-        (λ f. refl) v.records v.stack v.deeps in
+        (omega (arith, v.found, a.more, a.enough))
+        (goes_if (ltb found_scene.walk.found (room_for found_scene.room)))
+        (λ f. found_if (ltb found_scene.walk.found (room_for found_scene.room))) v.records v.stack v.deeps in
         let l : list_of m n B x ≡ with_words (word ∷ []) (list_of m n B found_scene) =
         tried_is O.breaks t ∙ ap (with_words (word ∷ [])) (on_after r x.walk.sized ∙ rw (room_kept x.room x.walk.found word)) in
         subst (Turns m start J n B x)
-        (sym (turned_is v _ (T.turn_found x.table x.records x.room s x.walk (sheets_of m) k a.low a.enough
+        (sym (turned_is v _ (T.turn_found x.table x.records x.room s x.walk m k a.low a.enough
         (work_at m c code) b a.high a.more cut_is o longer push (judged ∙ e))
         ∙ found_is))
         (meets word i fewer l refl refl)
@@ -317,6 +318,6 @@ module _ {m : Model} {start : Sane (labels m).fresh} {J : Judging m} {n B : ℕ}
         tried_is (O.goes (conf_at m c code b)) (goes_is e) ∙ rw (le-ltb (suc j) n h) in
         let l : list_of m n B x ≡ list_of m n B bound_scene = d ∙ on_after (suc r) x.walk.sized ∙ rw (some_room v a.run) in
         subst (Turns m start J n B x)
-        (sym (turned_is v _ (T.turn_bound x.table x.records x.room s x.walk (sheets_of m) k a.low a.enough
+        (sym (turned_is v _ (T.turn_bound x.table x.records x.room s x.walk m k a.low a.enough
         (work_at m c code) b a.high a.more cut_is o (judged ∙ e) (omega arith))))
         (goes_on i fewer l refl refl)

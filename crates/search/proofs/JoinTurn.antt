@@ -9,28 +9,29 @@ use Rattle.terms.specs.Table.{cut_to}
 use Rattle.state.specs.Code.{code_after}
 use Rattle.state.specs.Early.{sight_of}
 use Rattle.state.specs.Seek.{seek_from}
+use Rattle.model.specs.declared.records.Model.{Model}
 use Rattle.state.specs.declared.control.Control.{Control}
 use Rattle.rules.specs.Happened.{ended_on}
 use Rattle.rules.specs.Work.{work_on}
 use Rattle.rules.specs.declared.work.Labels.{Labels}
-use Rattle.rules.specs.declared.work.Worked.{Worked}
-use Rattle.rules.specs.declared.work.Worked.TheVariants as W
+use Rattle.rules.specs.Worked.{Worked}
+use Rattle.rules.specs.Worked as W
 use Rattle.machine.specs.Judge.{broken_by}
 use Rattle.search.specs.Place.{at_code, pushed}
 use Rattle.search.specs.Turn.{between, reached, closed, past, refused_by, stands_at, found_on, turned, still, entering}
-use Rattle.search.specs.Turn.{lent, Sheets, tried_by, tried_with, turn_on}
+use Rattle.search.specs.Turn.{lent, tried_by, tried_with, turn_on}
 use Rattle.search.specs.declared.place.Place.{Place}
 use Rattle.search.specs.declared.answer.Kind.TheVariants.{Stop, End}
 use Rattle.search.specs.declared.turn.Walk.{Walk}
 use Rattle.search.specs.declared.turn.Task.{Task}
 
-module _ (t l room : List ℕ) (s : Control) (w : Walk) (g : Sheets) (k : Task) where
+module _ (t l room : List ℕ) (s : Control) (w : Walk) (g : Model) (k : Task) where
   abbrev pub next_of : ℕ
   next_of = w.place.next
 
   -- the code that is let through, or 164
   abbrev pub code : ℕ
-  code = seek_from (sight_of s.frame g.actions g.locations k.machines) next_of
+  code = seek_from (sight_of s.frame g.actions g.locations g.machine_count) next_of
 
   pub turn_end : 164 ≤ next_of → turn_on t l room s w g k ≡ lent (still (closed w w.place 0 End)) t l room
   unfolding turn_on
@@ -75,7 +76,7 @@ module _ (t l room : List ℕ) (s : Control) (w : Walk) (g : Sheets) (k : Task) 
 
         -- its endings break the claim
         abbrev pub broken : Bool
-        broken = broken_by l w.place.length (ended_on s.frame.slots g.actions g.lengths code) k.claim
+        broken = broken_by l w.place.length (ended_on s.frame.slots g.actions g.lengths code) g.claim
 
         pub turn_found : (q : Place) → pushed w.place code ≡ q → broken ≡ true →
             turn_on t l room s w g k ≡ lent (still (found_on room gone_past q b.count).out) r.table l (found_on room gone_past q b.count).table

@@ -9,8 +9,8 @@ use lib.Dec.{eqb, ltb}
 use borrow.Author.Tests.{ltb-true, ltb-false, eqb-true, eqb-false}
 use Rattle.model.specs.declared.records.Model.{Model}
 use Rattle.rules.specs.declared.work.Labels.{Labels}
-use Rattle.rules.specs.declared.work.Worked.{Worked}
-use Rattle.rules.specs.declared.work.Worked.TheVariants as W
+use Rattle.rules.specs.Worked.{Worked}
+use Rattle.rules.specs.Worked as W
 use Rattle.machine.specs.Claim.{breaks_claim}
 use Rattle.walk.specs.List.{full}
 use Rattle.walk.specs.List as S
@@ -19,7 +19,7 @@ use Rattle.tries.specs.Labels.{labels}
 use Rattle.tries.proofs.Along.{Sane, work_at, event_at}
 use Rattle.tries.proofs.Judging.{Judging}
 use Rattle.search.specs.Answer.{room_for}
-use Rattle.search.specs.Turn.{between}
+use Rattle.search.specs.Turn.{goes, between}
 use Rattle.search.specs.Search.{Scene, turned_on, task, going_on, walk_in}
 use Rattle.search.specs.Shown.{spot_of}
 use Rattle.search.specs.declared.turn.Walk.{Walk}
@@ -59,7 +59,7 @@ module _ (m : Model) (start : Sane (labels m).fresh) (J : Judging m) (Q : Quiet 
     at_tried a (W.Refused i) o = at_refused a i o
     at_tried a (W.Done b) o = at_done a b o
 
-    turn_join : Inv m start J n B x → x.walk.going ≡ true → turn
+    turn_join : Inv m start J n B x → (goes x.walk) ≡ true → turn
     turn_join v run = go (ltb nx 164) refl
       where
         go_code : nx < 164 → between nx code ≤ x.walk.left → (a b : Bool) → ltb code 164 ≡ a → eqb x.walk.left (between nx code) ≡ b → turn
@@ -80,7 +80,7 @@ module _ (m : Model) (start : Sane (labels m).fresh) (J : Judging m) (Q : Quiet 
   -- Turn after turn
 
   -- no room for another schedule
-  shows_full : (x : Scene) → Inv m start J n B x → x.walk.going ≡ false → Shows B x x (list_of m n B x)
+  shows_full : (x : Scene) → Inv m start J n B x → (goes x.walk) ≡ false → Shows B x x (list_of m n B x)
   shows_full x v e =
       let h : room_for x.room ≤ x.walk.found = ltb-false _ _ (sym v.going ∙ e) in
       let z : room_for x.room - x.walk.found ≡ 0 = omega arith in
@@ -118,9 +118,9 @@ module _ (m : Model) (start : Sane (labels m).fresh) (J : Judging m) (Q : Quiet 
   pub walk_join : (f : ℕ) → Joins f
   unfolding walk_in
   walk_join zero x v h = absurd (omega arith)
-  walk_join (suc f) x v h = go x.walk.going refl (λ y i l. walk_join f y i l)
+  walk_join (suc f) x v h = go (goes x.walk) refl (λ y i l. walk_join f y i l)
     where
-      go : (b : Bool) → x.walk.going ≡ b → Joins f →
+      go : (b : Bool) → (goes x.walk) ≡ b → Joins f →
           Shows B x (going_on b x (λ y. walk_in f m (task m n) (turned_on m (task m n) y))) (list_of m n B x)
       go true e ih = by_turn f x ih h (turned_on m (task m n) x) (turn_join x v e)
       go false e ih = shows_full x v e

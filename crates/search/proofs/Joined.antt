@@ -33,16 +33,16 @@ use Rattle.tries.proofs.Judging.{Judging}
 use Rattle.search.specs.Place.{settled}
 use Rattle.search.specs.Answer.{listed, refused_listing, room_for}
 use Rattle.search.specs.Enter.{in_bounds, control_at, climb, enter_on}
-use Rattle.search.specs.Turn.{walk}
+use Rattle.search.specs.Turn.{answered, walk}
 use Rattle.search.specs.Search.{Scene, scene, walk_in, walk_on, first_walk, deeps_of, walk_from, task, bound_fits, listing_entered, listing_on}
 use Rattle.search.specs.Shown.{spot_of, place_at, tidied, fits_on, listing_shown}
 use Rattle.search.specs.declared.place.Place.{Place}
 use Rattle.search.specs.declared.answer.Kind.{Kind}
 use Rattle.search.specs.declared.answer.Kind.TheVariants.{Found}
-use Rattle.search.specs.declared.enter.Entered.{Entered}
+use Rattle.search.specs.Enter.{Entered}
 use Rattle.search.proofs.JoinPlace.{settle_is}
 use Rattle.search.proofs.JoinStand.{Quiet, there, stands_from}
-use Rattle.search.proofs.JoinShows.{Inv, list_of, Shows}
+use Rattle.search.proofs.JoinShows.{goes_if, found_if, Inv, list_of, Shows}
 use Rattle.search.proofs.JoinWalk.{walk_join}
 use Rattle.search.proofs.JoinEnter.{deeps_long, Entry, Enters, enter_join, entry_parts, entry_tidied}
 
@@ -171,8 +171,8 @@ module _ (m : Model) (long : length m.lines ≡ 512) (sound : sound_model m ≡ 
         left = omega arith;
         sized = omega arith;
         found = omega arith;
-        going = refl;
-        kind = λ f. refl;
+        going = goes_if (ltb 0 (room_for room));
+        kind = λ f. found_if (ltb 0 (room_for room));
         records = v.records;
         stack = v.stack;
         deeps = deeps_long e.table e.out.stack ∙ v.stack;
@@ -190,7 +190,7 @@ module _ (m : Model) (long : length m.lines ≡ 512) (sound : sound_model m ≡ 
       abbrev y : Scene
       y = walk_in (b + 1) m (task m n) x
 
-      walked_is : listing_on m n p b room ≡ held (listed y.walk.kind y.walk.found (b - y.walk.left) y.walk.sized y.walk.place) y.room
+      walked_is : listing_on m n p b room ≡ held (listed (answered y.walk) y.walk.found (b - y.walk.left) y.walk.sized y.walk.place) y.room
       unfolding walk_from walk_on first_walk
       walked_is = entered_is ∙ rw (E.good ∙ good)
 

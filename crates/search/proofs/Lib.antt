@@ -3,13 +3,10 @@
 -- On the way there: the program's definitions beside the walk's, one file for each part (Join .., Joined). A turn has to come to what
 -- JoinShows says; it tries no code (JoinSought), or one that is refused, found or too long (JoinTried), or one that is entered
 -- (JoinLonger); JoinWalk puts turns together. JoinPass and JoinQuiet are for schedules that are passed whole.
--- For the functions: one turn of each loop (Laws), configurations in rows (Stacked), a turn over them case by case (OverRows) and what it
--- comes to (InPlace), and that every turn which leaves the walk going spends of the budget (Falls).
+-- For the functions: one turn of each loop, and what stands on the stack (Laws), and that every turn which leaves the walk going
+-- spends of the budget (Falls).
 pub mod Falls
 pub mod Laws
-pub mod Stacked
-pub mod OverRows
-pub mod InPlace
 pub mod JoinPlace
 pub mod JoinStand
 pub mod JoinRoom

@@ -7,8 +7,16 @@ use Rattle.search.specs.Place.{start_place}
 use Rattle.search.specs.declared.place.Place.{Place}
 use Rattle.search.specs.declared.answer.Kind.{Kind}
 use Rattle.search.specs.declared.answer.Kind.TheVariants.{Refused}
+use Rattle.search.specs.declared.answer.Refusal.{Refusal}
+use Rattle.search.specs.declared.answer.Refusal.TheVariants.{Unsound, Unbounded, Unfit}
 use Rattle.search.specs.declared.answer.Answer.{Answer}
 use Rattle.search.specs.declared.answer.Listing.{Listing}
+
+-- a refusal's number
+abbrev pub number_of : Refusal → ℕ
+number_of Unsound = 11
+number_of Unbounded = 41
+number_of Unfit = 40
 
 abbrev pub listed : Kind → ℕ → ℕ → ℕ → Place → Listing
 listed k found tries sized p = record { kind = k; found = found; tries = tries; sized = sized; place = p }

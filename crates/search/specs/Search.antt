@@ -1,12 +1,12 @@
 -- The walk from a place, within a budget, turn after turn; a listing, which fills lent room with the bad schedules met; and
 -- a search, which is a listing with room for one.
-use Rattle.std.specs.Prelude.{ℕ, zero, suc, ◌+◌, ◌-◌, Bool, true, false, not, List, map, get_or, set, replicate, eqb, ltb, leb}
+use Rattle.std.specs.Prelude.{ℕ, zero, suc, ◌+◌, ◌-◌, Bool, true, false, not, List, [], map, get_or, set, replicate, eqb, ltb, leb}
 use Rattle.terms.specs.Base.{pick, Held, held}
 use Rattle.model.specs.declared.records.Model.{Model}
 use Rattle.state.specs.declared.control.Control.{Control}
 use Rattle.rules.specs.Event.{record_of, record_put}
 use Rattle.rules.specs.Happened.{happened_on}
-use Rattle.rules.specs.Made.{control_after}
+use Rattle.rules.specs.Made.{control_after, layout_of}
 use Rattle.rules.specs.declared.event.Happening.{Happening}
 use Rattle.audit.specs.Models.{sound_model}
 use Rattle.quiet.specs.Quiet.{deepest, all_fit, all_near, calm, shallow, outline_of}
@@ -14,15 +14,15 @@ use Rattle.quiet.specs.declared.quiet.Outline.{Outline}
 use Rattle.machine.specs.Recorded.{Left}
 use Rattle.search.specs.Place.{level_of, pushed, settled}
 use Rattle.search.specs.Answer.{listed, refused_listing, room_for, answer_of}
-use Rattle.law.specs.Rules.{layout_of}
 use Rattle.search.specs.Enter.{in_bounds, control_at, enter_on}
-use Rattle.search.specs.Turn.{walk, stands_at, Lent, lent, Sheets, sheets, turn_on}
+use Rattle.search.specs.Turn.{goes, answered, walk, stands_at, enters, step_of, turned, Lent, lent, turn_on}
 use Rattle.search.specs.declared.place.Place.{Place}
 use Rattle.search.specs.declared.answer.Kind.TheVariants.{Found, End}
 use Rattle.search.specs.declared.answer.Answer.{Answer}
 use Rattle.search.specs.declared.answer.Listing.{Listing}
-use Rattle.search.specs.declared.enter.Entered.{Entered}
+use Rattle.search.specs.Enter.{Entered}
 use Rattle.search.specs.declared.turn.Walk.{Walk}
+use Rattle.search.specs.declared.turn.Step.{Step}
 use Rattle.search.specs.declared.turn.Turned.{Turned}
 use Rattle.search.specs.declared.turn.Task.{Task}
 
@@ -38,9 +38,6 @@ pub record Scene : Type 0 where
 
 abbrev pub scene : Walk → List Control → List ℕ → List ℕ → List ℕ → List ℕ → Scene
 scene w stack deeps t l room = record { walk = w; stack = stack; deeps = deeps; table = t; records = l; room = room }
-
-abbrev pub sheets_of : Model → Sheets
-sheets_of m = sheets m.actions m.lengths m.locations
 
 -- nothing is entered from a schedule that is one longer than n, and there is budget for all its codes
 unfoldable pub at_last : ℕ → ℕ → ℕ → Bool
@@ -67,7 +64,7 @@ abbrev pub entered_late : Bool → Lent Turned → Place → Happening → List 
 entered_late late r p h stack deeps =
     pick late (scene (spent_all r.out.walk) stack deeps r.table r.records r.room)
     (scene
-    (stands_at r.out.walk r.out.walk.found (pushed p r.out.code) r.out.labels.count true)
+    (stands_at r.out.walk r.out.walk.found (pushed p (step_of r.out).code) (step_of r.out).labels.count true)
     stack
     deeps
     r.table
@@ -93,28 +90,35 @@ entered_from m k r p h c d level stack deeps =
     entered_by m k (quiet_at r.out.walk.left p.length k c.frame.slots m.lengths c.count) r p h c d level stack deeps
 
 -- where a schedule is entered from the place p its configuration is the step made from s, whose deepest term is at depth d
-abbrev pub scene_after : Model → Task → Lent Turned → Place → Control → ℕ → ℕ → List Control → List ℕ → Scene
-scene_after m k r p s d level stack deeps =
-    pick r.out.enters
-    (entered_from
+abbrev pub longer_by : Model → Task → Lent Turned → Place → Control → ℕ → ℕ → List Control → List ℕ → Scene
+longer_by m k r p s d level stack deeps =
+    entered_from
     m
     k
     r
     p
-    (happened_on s.frame m.actions m.lengths r.out.code r.out.labels)
-    (control_after s (layout_of m) r.out.code r.out.labels)
-    (deepest r.table d s.count r.out.labels.count)
+    (happened_on s.frame m.actions m.lengths (step_of r.out).code (step_of r.out).labels)
+    (control_after s (layout_of m) (step_of r.out).code (step_of r.out).labels)
+    (deepest r.table d s.count (step_of r.out).labels.count)
     level
     stack
-    deeps)
-    (scene r.out.walk stack deeps r.table r.records r.room)
+    deeps
+
+abbrev pub scene_after : Model → Task → Lent Turned → Place → Control → ℕ → ℕ → List Control → List ℕ → Scene
+scene_after m k r p s d level stack deeps =
+    pick (enters r.out) (longer_by m k r p s d level stack deeps) (scene r.out.walk stack deeps r.table r.records r.room)
 
 abbrev pub scene_from : Model → Task → Scene → Control → ℕ → ℕ → Scene
 scene_from m k x s d level =
-    scene_after m k (turn_on x.table x.records x.room s x.walk (sheets_of m) k) x.walk.place s d level x.stack x.deeps
+    scene_after m k (turn_on x.table x.records x.room s x.walk m k) x.walk.place s d level x.stack x.deeps
 
 abbrev pub deep_at : List ℕ → ℕ → ℕ
 deep_at deeps n = get_or deeps (level_of n) 0
+
+-- the schedule that is one longer than that of place p, with no room: v is the walk after the turn that found the step
+unfoldable pub longer : Model → Task → List ℕ → List ℕ → Place → Walk → Step → List Control → List ℕ → Scene
+longer m k t l p v f stack deeps =
+    longer_by m k (lent (turned v true f.code f.labels) t l []) p (control_at stack p.length) (deep_at deeps p.length) (level_of p.length) stack deeps
 
 -- one turn
 unfoldable pub turned_on : Model → Task → Scene → Scene
@@ -128,7 +132,7 @@ going_on false x rest = x
 -- at most n turns
 unfoldable pub walk_in : ℕ → Model → Task → Scene → Scene
 walk_in zero m k x = x
-walk_in (suc n) m k x = going_on x.walk.going x (λ y. walk_in n m k (turned_on m k y))
+walk_in (suc n) m k x = going_on (goes x.walk) x (λ y. walk_in n m k (turned_on m k y))
 
 -- every turn that leaves the walk going spends of the budget
 unfoldable pub walk_on : Model → Task → Scene → Scene
@@ -152,14 +156,14 @@ walk_from t l room m e budget k =
     lent_scene (walk_on m k (scene (first_walk e budget (ltb 0 (room_for room))) e.stack (deeps_of t e.stack) t l room))
 
 abbrev pub task : Model → ℕ → Task
-task m bound = record { claim = m.claim; machines = m.machine_count; bound = bound; outline = outline_of m }
+task m bound = record { bound = bound; outline = outline_of m }
 
 -- "Bound 1 to 24, else 41"
 unfoldable pub bound_fits : ℕ → Bool
 bound_fits bound = pick (eqb bound 0) false (leb bound 24)
 
 abbrev pub listing_walked : Lent Walk → ℕ → Held Listing
-listing_walked r budget = held (listed r.out.kind r.out.found (budget - r.out.left) r.out.sized r.out.place) r.room
+listing_walked r budget = held (listed (answered r.out) r.out.found (budget - r.out.left) r.out.sized r.out.place) r.room
 
 abbrev pub listing_entered : Left Entered → Model → ℕ → ℕ → List ℕ → Held Listing
 listing_entered e m bound budget room =

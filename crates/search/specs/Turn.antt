@@ -1,8 +1,9 @@
 -- One turn of the walk: the codes that refusals 1 to 7 turn down are passed together and counted as tries, then one code is
 -- tried. The table is cut back to the schedule's own terms before the try.
-use Rattle.std.specs.Prelude.{ℕ, ◌+◌, ◌-◌, ◌%◌, Bool, true, false, List, eqb, ltb, leb}
+use Rattle.std.specs.Prelude.{ℕ, ◌+◌, ◌-◌, ◌%◌, Bool, true, false, Option, None, Some, is_none, is_some, List, eqb, ltb, leb}
 use Rattle.terms.specs.Base.{pick, Held, held}
 use Rattle.terms.specs.Table.{cut_to}
+use Rattle.model.specs.declared.records.Model.{Model}
 use Rattle.state.specs.Code.{codes_below, code_from, code_after}
 use Rattle.state.specs.Early.{sight_of}
 use Rattle.state.specs.Seek.{seek_from}
@@ -10,8 +11,8 @@ use Rattle.state.specs.declared.control.Control.{Control}
 use Rattle.rules.specs.Happened.{ended_on}
 use Rattle.rules.specs.Work.{no_labels, work_on}
 use Rattle.rules.specs.declared.work.Labels.{Labels}
-use Rattle.rules.specs.declared.work.Worked.{Worked}
-use Rattle.rules.specs.declared.work.Worked.TheVariants as W
+use Rattle.rules.specs.Worked.{Worked}
+use Rattle.rules.specs.Worked as W
 use Rattle.machine.specs.Judge.{broken_by}
 use Rattle.search.specs.Place.{at_code, pushed, settled}
 use Rattle.search.specs.Answer.{room_for, schedule_put}
@@ -20,13 +21,30 @@ use Rattle.search.specs.declared.answer.Kind.{Kind}
 use Rattle.search.specs.declared.answer.Kind.TheVariants.{Found, Stop, End}
 use Rattle.search.specs.declared.turn.Walk.{Walk}
 use Rattle.search.specs.declared.turn.Turned.{Turned}
+use Rattle.search.specs.declared.turn.Step.{Step}
 use Rattle.search.specs.declared.turn.Task.{Task}
+
+-- what a walk answers, none while it goes on
+abbrev pub answer_if : Bool → Kind → Option Kind
+answer_if true kind = None
+answer_if false kind = Some kind
+
+-- whether it goes on, and what it answers where it does not
+abbrev pub goes : Walk → Bool
+goes w = is_none w.answer
+
+abbrev pub kind_or : Option Kind → Kind
+kind_or (Some kind) = kind
+kind_or None = Found
+
+abbrev pub answered : Walk → Kind
+answered w = kind_or w.answer
 
 -- the walk: place, budget left, tries refused for size, schedules found, terms in the table, whether it goes on, and what
 -- it answers where it does not
 abbrev pub walk : Place → ℕ → ℕ → ℕ → ℕ → Bool → Kind → Walk
 walk p left sized found filled going kind =
-    record { place = p; left = left; sized = sized; found = found; filled = filled; going = going; kind = kind }
+    record { place = p; left = left; sized = sized; found = found; filled = filled; answer = answer_if going kind }
 
 -- how many codes stand from one number up to another
 unfoldable pub between : ℕ → ℕ → ℕ
@@ -58,6 +76,10 @@ refused_by v n = pick (eqb n 8) (one_sized v) (pick (eqb n 9) (one_sized v) v)
 abbrev pub stands_at : Walk → ℕ → Place → ℕ → Bool → Walk
 stands_at v found p filled going = walk p v.left v.sized found filled going Found
 
+-- what a listing answers that has found n: it is full, or it goes on
+unfoldable pub found_all : ℕ → List ℕ → Option Kind
+found_all n room = answer_if (ltb n (room_for room)) Found
+
 -- a bad schedule goes to the lent room; the walk goes on while there is room for another
 abbrev pub found_in : List ℕ → Walk → ℕ → ℕ → Held Walk
 found_in room v n filled = held (stands_at v n v.place filled (ltb n (room_for room))) room
@@ -66,8 +88,22 @@ unfoldable pub found_on : List ℕ → Walk → Place → ℕ → Held Walk
 found_on room v q filled = found_in (schedule_put room v.found q) v (one_try_more v.found) filled
 
 -- a turn's outcome: the walk after it, and the step to make where a longer schedule is entered
+abbrev pub step_if : Bool → ℕ → Labels → Option Step
+step_if true code l = Some (record { code = code; labels = l })
+step_if false code l = None
+
 abbrev pub turned : Walk → Bool → ℕ → Labels → Turned
-turned w enters code l = record { walk = w; enters = enters; code = code; labels = l }
+turned w enters code l = record { walk = w; entered = step_if enters code l }
+
+abbrev pub enters : Turned → Bool
+enters r = is_some r.entered
+
+abbrev pub step_or : Option Step → Step
+step_or (Some s) = s
+step_or None = record { code = 0; labels = no_labels 0 }
+
+abbrev pub step_of : Turned → Step
+step_of r = step_or r.entered
 
 abbrev pub still : Walk → Turned
 still w = turned w false 0 (no_labels 0)
@@ -89,49 +125,40 @@ lent r t l room = record { out = r; table = t; records = l; room = room }
 abbrev pub lent_found : Held Walk → List ℕ → List ℕ → Lent Turned
 lent_found r t l = lent (still r.out) t l r.table
 
--- what the walk reads of a model
-pub record Sheets : Type 0 where
-  pub actions : List ℕ
-  pub lengths : List ℕ
-  pub locations : List ℕ
-
-abbrev pub sheets : List ℕ → List ℕ → List ℕ → Sheets
-sheets actions lengths locations = record { actions = actions; lengths = lengths; locations = locations }
-
 -- the code was tried: refused by 8, 9 or 10, or permitted; v is the walk gone past it
-abbrev pub tried_by : Worked → List ℕ → List ℕ → List ℕ → Control → Walk → Place → Sheets → ℕ → Task → Lent Turned
-tried_by (W.Refused n) t l room s v p g code k = lent (still (refused_by v n)) t l room
-tried_by (W.Done b) t l room s v p g code k =
-    pick (broken_by l p.length (ended_on s.frame.slots g.actions g.lengths code) k.claim)
+abbrev pub tried_by : Worked → List ℕ → List ℕ → List ℕ → Control → Walk → Place → Model → ℕ → Task → Lent Turned
+tried_by (W.Refused n) t l room s v p m code k = lent (still (refused_by v n)) t l room
+tried_by (W.Done b) t l room s v p m code k =
+    pick (broken_by l p.length (ended_on s.frame.slots m.actions m.lengths code) m.claim)
     (lent_found (found_on room v (pushed p code) b.count) t l)
     (lent (entering v p.length code b k.bound) t l room)
 
-abbrev pub tried_with : Held Worked → List ℕ → List ℕ → Control → Walk → Place → Sheets → ℕ → Task → Lent Turned
-tried_with r l room s v p g code k = tried_by r.out r.table l room s v p g code k
+abbrev pub tried_with : Held Worked → List ℕ → List ℕ → Control → Walk → Place → Model → ℕ → Task → Lent Turned
+tried_with r l room s v p m code k = tried_by r.out r.table l room s v p m code k
 
 -- n codes are passed on the way to the code that is let through, or to 164: the budget is out on the way, none is let
 -- through, the budget is out there, or that code is tried
-abbrev pub passing : ℕ → ℕ → List ℕ → List ℕ → List ℕ → Control → Walk → Sheets → Task → Lent Turned
-passing n code t l room s w g k =
+abbrev pub passing : ℕ → ℕ → List ℕ → List ℕ → List ℕ → Control → Walk → Model → Task → Lent Turned
+passing n code t l room s w m k =
     pick (ltb w.left n) (lent (still (closed w (at_code w.place (reached w.place.next w.left)) w.left Stop)) t l room)
     (pick (leb 164 code) (lent (still (past w code n)) t l room)
     (pick (eqb w.left n) (lent (still (closed w (at_code w.place code) n Stop)) t l room)
     (tried_with
-    (work_on (cut_to t s.count w.filled) s g.actions code)
+    (work_on (cut_to t s.count w.filled) s m.actions code)
     l
     room
     s
     (past w (code_after code) (n + 1))
     w.place
-    g
+    m
     code
     k)))
 
-abbrev pub seeking : ℕ → List ℕ → List ℕ → List ℕ → Control → Walk → Sheets → Task → Lent Turned
-seeking code t l room s w g k = passing (between w.place.next code) code t l room s w g k
+abbrev pub seeking : ℕ → List ℕ → List ℕ → List ℕ → Control → Walk → Model → Task → Lent Turned
+seeking code t l room s w m k = passing (between w.place.next code) code t l room s w m k
 
 -- a turn at configuration s: the end, where no pair is left
-unfoldable pub turn_on : List ℕ → List ℕ → List ℕ → Control → Walk → Sheets → Task → Lent Turned
-turn_on t l room s w g k =
+unfoldable pub turn_on : List ℕ → List ℕ → List ℕ → Control → Walk → Model → Task → Lent Turned
+turn_on t l room s w m k =
     pick (leb 164 w.place.next) (lent (still (closed w w.place 0 End)) t l room)
-    (seeking (seek_from (sight_of s.frame g.actions g.locations k.machines) w.place.next) t l room s w g k)
+    (seeking (seek_from (sight_of s.frame m.actions m.locations m.machine_count) w.place.next) t l room s w m k)

@@ -1,7 +1,9 @@
 // What a search answers: its kind, an enum, beside the schedule found; tries, place after, tries refused for size. On a
 // refusal (11, 41, 40) all fields are zero.
+#![tactic(auto, unfolding(crate::specs::Answer::refused_listing, crate::specs::Answer::room_for))]
+
 ghost use Rattle.std.specs.Prelude.{◌≡◌};
-ghost use Rattle.search.specs.Answer.{refused_listing, room_for, schedule_put};
+ghost use Rattle.search.specs.Answer.{number_of, refused_listing, room_for, schedule_put};
 
 use crate::place::Place;
 
@@ -10,7 +12,31 @@ pub enum Kind {
     Found,
     Stop,
     End,
+    // kept: search_unsound, search_unbounded and search_unfit speak of this number
     Refused(u8),
+}
+
+// Why a search is refused, each reason with the number that the scope document gives it.
+#[derive(Clone, Copy, PartialEq, Eq)]
+pub enum Refusal {
+    // 11: the model is not sound
+    Unsound,
+    // 41: the bound is not 1 to 24
+    Unbounded,
+    // 40: the place does not fit
+    Unfit,
+}
+
+impl Refusal {
+    pub fn number(self) -> u8
+        ensures { result ≡ number_of self }
+    {
+        match self {
+            Refusal::Unsound => 11,
+            Refusal::Unbounded => 41,
+            Refusal::Unfit => 40,
+        }
+    }
 }
 
 #[derive(Drop)]
@@ -38,6 +64,7 @@ impl Listing {
     pub const WIDTH: usize = 25;
 }
 
+// kept: of any number, as refused_listing of specs
 pub fn refused_listing(number: u8) -> Listing
     ensures { result ≡ refused_listing number }
 {
@@ -61,15 +88,10 @@ pub fn room_for(room: &[u8]) -> usize
 pub fn write_schedule(room: &mut [u8], i: u32, p: Place)
     ensures { room.new ≡ schedule_put room.old i p }
 {
-    let codes = p.codes;
     let from = i as usize * Listing::WIDTH;
     if room.len() < from + Listing::WIDTH {
         return;
     }
     room[from] = p.length;
-    let mut k = 0;
-    while k < 24 {
-        room[from + 1 + k] = codes[k];
-        k += 1;
-    }
+    room[from + 1..from + Listing::WIDTH].copy_from_slice(&p.codes);
 }

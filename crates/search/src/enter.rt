@@ -1,105 +1,63 @@
 // A place entered: the steps of its schedule are made from the fresh configuration, once, and the configuration of each
 // shorter schedule is kept. The steps must be permitted and leave the claim unbroken.
+#![tactic(auto, unfolding(crate::specs::Enter::in_bounds, crate::specs::Enter::goes_on))]
+
 ghost use Rattle.std.specs.Prelude.{◌≡◌};
 ghost use Rattle.terms.specs.Base.{held};
 ghost use Rattle.machine.specs.Recorded.{left};
-ghost use Rattle.search.specs.Enter.{in_bounds, went_on, enter_on};
+ghost use Rattle.search.specs.Enter.{in_bounds, goes_on, reply_of, entry_of, enter_on};
 
 use crate::place::{Place, at_code, code_in, level_of, pushed};
 use machine::claim::breaks;
 use model::records::{Claim, Model};
-use rules::event::{record_of, write_record};
-use rules::inner::{Reply, Stepped, try_step};
+use rules::event::{Happening, record_of, write_record};
+use rules::inner::try_step;
 use state::code::{Code, is_code};
 use state::control::Control;
-
-// Whether the place is good, the configurations on the way, and the place itself, zero past its length.
-#[derive(Drop)]
-pub struct Entered {
-    pub good: bool,
-    pub stack: [Control; 25],
-    pub place: Place,
-}
-
-// Whether a step went on unbroken.
-#[derive(Drop)]
-pub struct Gone {
-    pub good: bool,
-    pub control: Control,
-}
+use state::refusal::Refusal;
 
 // A schedule shorter than the bound, and a code, or 164, to try next.
 pub fn in_bounds(p: Place, bound: u8) -> bool
     ensures { result ≡ in_bounds p bound }
 {
-    if bound <= p.length {
-        return false;
-    }
-    if p.next == Code::NONE {
-        return true;
-    }
-    is_code(p.next)
+    p.length < bound && (p.next == Code::NONE || is_code(p.next))
 }
 
-pub fn enter(t: &mut [u64; 512], records: &mut [u16], m: Model, p: Place) -> Entered
-    ensures { left result t.new records.new ≡ enter_on t.old records.old m p }
+// The configurations are those on the way. Ok is the place entered, with 0 past its length; Err is the schedule as far as
+// its steps were permitted and left the claim unbroken, and the first that was not.
+pub fn enter(
+    t: &mut [u64; 512],
+    records: &mut [u16],
+    stack: &mut [Control; 25],
+    m: &Model,
+    p: Place,
+) -> Result<Place, Place>
+    ensures { left (entry_of result stack.new) t.new records.new ≡ enter_on t.old records.old m.now p }
 {
-    let s = Control::fresh(m);
-    let mut stack = [s; 25];
+    *stack = [Control::fresh(m); 25];
     let mut place = Place::start();
-    let codes = p.codes;
-    let mut i = 0;
-    while i < p.length {
+    for i in 0..p.length {
         let level = level_of(i);
-        let code = code_in(codes, i);
-        let r = try_step(
-            t,
-            stack[level],
-            &m.actions,
-            &m.lengths,
-            &m.machines,
-            m.machine_count,
-            &m.locations,
-            code,
-        );
-        let g = went(records, i, r, m.claim);
-        let c = g.control;
-        stack[level + 1] = c;
+        let code = code_in(p.codes, i);
+        stack[level + 1] = stack[level];
+        let r = try_step(t, &mut stack[level + 1], m, code);
         place = pushed(place, code);
-        i += 1;
-        if !g.good {
-            return Entered {
-                good: false,
-                stack,
-                place,
-            };
+        if !goes_on(records, i, r, m.claim) {
+            return Err(place);
         }
     }
-    Entered {
-        good: true,
-        stack,
-        place: at_code(place, p.next),
-    }
+    Ok(at_code(place, p.next))
 }
 
-fn went(records: &mut [u16], i: u8, r: Stepped, c: Claim) -> Gone
-    ensures { held result records.new ≡ went_on records.old i r c }
+// A step that was permitted is recorded; it goes on if it leaves the claim unbroken.
+fn goes_on(records: &mut [u16], i: u8, r: Result<Happening, Refusal>, c: Claim) -> bool
+    ensures { held result records.new ≡ goes_on records.old i (reply_of r) c }
 {
-    let control = r.control;
-    let reply = r.reply;
-    match reply {
-        Reply::Refused(_) => Gone {
-            good: false,
-            control,
-        },
-        Reply::Permitted(h) => {
-            let at = i as u16;
-            write_record(records, at, record_of(h));
-            let broken = breaks(records, at, c);
-            Gone {
-                good: !broken,
-                control,
-            }
+    match r {
+        Ok(h) => {
+            write_record(records, u16::from(i), &record_of(h));
+            !breaks(records, u16::from(i), c)
         }
+        Err(_) => false,
     }
 }

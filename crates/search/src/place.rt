@@ -1,5 +1,7 @@
 // A place: a schedule, and the next code to try after it. Codes past the schedule's length are 0.
-ghost use Rattle.std.specs.Prelude.{◌≡◌, ◌-◌};
+#![tactic(auto, unfolding(crate::specs::Place::start_place, crate::specs::Place::at_code, crate::specs::Place::code_put, crate::specs::Place::code_in, crate::specs::Place::pushed, crate::specs::Place::popped, crate::specs::Place::is_done))]
+
+ghost use Rattle.std.specs.Prelude.{◌≡◌};
 ghost use Rattle.search.specs.Place.{start_place, at_code, Level, code_in, pushed, Shorter, is_done, settled};
 
 use state::code::{Code, code_after};
@@ -31,27 +33,21 @@ impl Place {
 pub fn at_code(p: Place, next: u16) -> Place
     ensures { result ≡ at_code p next }
 {
-    let codes = p.codes;
-    Place {
-        codes,
-        length: p.length,
-        next,
-    }
+    Place { next, ..p }
 }
 
 // The level of a schedule's length; schedules are shorter than 24.
 pub fn level_of(length: u8) -> usize
     ensures { Level length result }
 {
-    (length % 24) as usize
+    usize::from(length % 24)
 }
 
 // The code at a place of a schedule.
 pub fn code_in(codes: [u8; 24], i: u8) -> u16
     ensures { result ≡ code_in codes i }
 {
-    let j = level_of(i);
-    codes[j] as u16
+    u16::from(codes[level_of(i)])
 }
 
 // One code longer, to be tried from its first code on.
@@ -59,8 +55,7 @@ pub fn pushed(p: Place, code: u16) -> Place
     ensures { result ≡ pushed p code }
 {
     let mut codes = p.codes;
-    let i = level_of(p.length);
-    codes[i] = (code % 256) as u8;
+    codes[level_of(p.length)] = (code % 256) as u8;
     Place {
         codes,
         length: p.length % 255 + 1,
@@ -73,21 +68,13 @@ pub fn popped(p: Place) -> Place
     ensures { Shorter p result }
 {
     let mut codes = p.codes;
-    let length = one_less(p.length);
-    let i = level_of(length);
-    let last = codes[i] as u16;
-    codes[i] = 0;
+    let length = p.length.saturating_sub(1);
+    codes[level_of(length)] = 0;
     Place {
         codes,
         length,
-        next: code_after(last),
+        next: code_after(code_in(p.codes, length)),
     }
-}
-
-pub fn one_less(n: u8) -> u8
-    ensures { result ≡ n - 1 }
-{
-    if n == 0 { 0 } else { n - 1 }
 }
 
 // Back to where a code is left, or to the end: the empty schedule with none left.
@@ -95,6 +82,7 @@ pub fn settled(p: Place) -> Place
     ensures { result ≡ settled p }
 {
     let mut q = p;
+    // kept: no index is counted here
     while is_done(q) {
         q = popped(q);
     }
@@ -105,9 +93,5 @@ pub fn settled(p: Place) -> Place
 fn is_done(p: Place) -> bool
     ensures { result ≡ is_done p }
 {
-    if p.next < Code::NONE {
-        false
-    } else {
-        0 < p.length
-    }
+    Code::NONE <= p.next && 0 < p.length
 }

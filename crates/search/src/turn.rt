@@ -1,24 +1,27 @@
 // One turn of the walk. Codes that refusals 1 to 7 turn down are passed together and counted; then one code is tried. The
 // configuration of each shorter schedule is kept, and the table is cut back to its count before a code is tried.
-ghost use Rattle.std.specs.Prelude.{◌≡◌, ◌-◌};
+#![tactic(auto, unfolding(crate::specs::Turn::between, crate::specs::Turn::reached, crate::specs::Turn::one_try_more, crate::specs::Turn::closed, crate::specs::Turn::past, crate::specs::Turn::one_sized, crate::specs::Turn::refused_by, crate::specs::Turn::found_all, crate::specs::Turn::found_on, crate::specs::Turn::entering))]
+
+ghost use Rattle.std.specs.Prelude.{◌≡◌};
 ghost use Rattle.terms.specs.Base.{held};
-ghost use Rattle.search.specs.Rows.{control_from};
-ghost use Rattle.search.specs.Turn.{between, reached, one_try_more, closed, past, one_sized, refused_by, stands_at, found_on, still, entering, lent, sheets, turn_on};
+ghost use Rattle.state.specs.Refusal.{number_of};
+ghost use Rattle.search.specs.Turn.{between, reached, closed, past, refused_by, found_all, found_on, still, entering, lent, turn_on};
 
 use crate::answer::{Kind, room_for, write_schedule};
 use crate::place::{Place, at_code, pushed, settled};
-use crate::rows::Counts;
 use machine::claim::broken_by;
-use model::records::Claim;
+use model::records::Model;
 use quiet::quiet::Outline;
 use rules::happened::ended_by;
-use rules::work::{Labels, Worked, no_labels, work_lent};
+use rules::work::{Labels, work};
 use state::code::{Code, code_after, code_from, codes_below};
+use state::control::Control;
+use state::refusal::Refusal;
 use state::seek::seek;
 use terms::table::cut;
 
 // The place, always one with a code left or the end; budget left; tries refused for size; schedules found; terms in the
-// table as the last try left it; whether the walk goes on, and what it answers where it does not.
+// table as the last try left it; and what the walk answers, none while it goes on.
 #[derive(Clone, Copy)]
 pub struct Walk {
     pub place: Place,
@@ -26,53 +29,48 @@ pub struct Walk {
     pub sized: u32,
     pub found: u32,
     pub filled: u16,
-    pub going: bool,
-    pub kind: Kind,
+    pub answer: Option<Kind>,
 }
 
-// A turn's outcome: the walk after it, and the step to make where a longer schedule is entered.
+// A step whose work is done, to be made where a longer schedule is entered by it.
 #[derive(Clone, Copy)]
-pub struct Turned {
-    pub walk: Walk,
-    pub enters: bool,
+pub struct Step {
     pub code: u16,
     pub labels: Labels,
 }
 
-// What is fixed of a search beside its model's tables.
+// A turn's outcome: the walk after it, and the step by which a longer schedule is entered.
+#[derive(Clone, Copy)]
+pub struct Turned {
+    pub walk: Walk,
+    pub entered: Option<Step>,
+}
+
+// What is fixed of a search beside its model.
 #[derive(Clone, Copy)]
 pub struct Task {
-    pub claim: Claim,
-    pub machines: u8,
     pub bound: u8,
     pub outline: Outline,
 }
 
-// A turn at a schedule whose configuration is lent: slots, locks, values and variables, and its counters.
-pub fn turn<'a, 'b>(
+// A turn at a schedule whose configuration is lent.
+pub fn turn(
     t: &mut [u64; 512],
     records: &[u16],
     room: &mut [u8],
-    slots: &'b [u64; 12],
-    locks: &'b [u32; 32],
-    values: &'b [u16; 32],
-    vars: &'b [u16; 192],
-    c: Counts,
+    s: &Control,
     w: Walk,
-    actions: &'a [u64; 512],
-    lengths: &'a [u8; 32],
-    locations: &'a [u32; 32],
+    m: &Model,
     k: Task,
 ) -> Turned
-    ensures { lent result t.new records.now room.new ≡ turn_on t.old records.now room.old (control_from slots.now locks.now values.now vars.now c) w (sheets actions.now lengths.now locations.now) k }
+    ensures { lent result t.new records.now room.new
+        ≡ turn_on t.old records.now room.old s.now w m.now k }
 {
     let p = w.place;
     if Code::NONE <= p.next {
         return still(closed(w, p, 0, Kind::End));
     }
-    let code = seek(
-        slots, locks, c.steps, actions, locations, k.machines, p.next,
-    );
+    let code = seek(&s.frame, m, p.next);
     let passed = between(p.next, code);
     if w.left < passed {
         let q = at_code(p, reached(p.next, w.left));
@@ -84,31 +82,32 @@ pub fn turn<'a, 'b>(
     if w.left == passed {
         return still(closed(w, at_code(p, code), passed, Kind::Stop));
     }
-    cut(t, c.count, w.filled);
+    cut(t, s.count, w.filled);
     let v = past(w, code_after(code), passed + 1);
-    let r = work_lent(t, slots, values, vars, c.count, c.nonce, actions, code);
-    match r {
-        Worked::Refused(number) => still(refused_by(v, number)),
-        Worked::Done(l) => {
-            let e = ended_by(slots, actions, lengths, code);
-            if broken_by(records, p.length as u16, e, k.claim) {
+    match work(t, s, m, code) {
+        Err(r) => still(refused_by(v, r)),
+        Ok(l) => {
+            let e = ended_by(&s.frame, m, code);
+            if broken_by(records, u16::from(p.length), e, m.claim) {
                 return still(found(room, v, pushed(p, code), l.count));
             }
-            entering(v, p.length, code, l, k.bound)
+            entering(v, p.length, Step { code, labels: l }, k.bound)
         }
     }
 }
 
 // A permitted code that breaks nothing: the longer schedule is entered where it is shorter than the bound.
-fn entering(v: Walk, length: u8, code: u16, l: Labels, bound: u8) -> Turned
-    ensures { result ≡ entering v length code l bound }
+fn entering(v: Walk, length: u8, step: Step, bound: u8) -> Turned
+    ensures { result ≡ entering v length step.code step.labels bound }
 {
-    let place = v.place;
+    let shorter = u16::from(length) + 1 < u16::from(bound);
     Turned {
-        walk: stands_at(v, v.found, place, l.count, true),
-        enters: length as u16 + 1 < bound as u16,
-        code,
-        labels: l,
+        walk: Walk {
+            filled: step.labels.count,
+            answer: None,
+            ..v
+        },
+        entered: if shorter { Some(step) } else { None },
     }
 }
 
@@ -116,9 +115,7 @@ fn entering(v: Walk, length: u8, code: u16, l: Labels, bound: u8) -> Turned
 fn between(from: u16, to: u16) -> u32
     ensures { result ≡ between from to }
 {
-    let m = codes_below(from);
-    let n = codes_below(to);
-    if m < n { (n - m) as u32 } else { 0 }
+    u32::from(codes_below(to).saturating_sub(codes_below(from)))
 }
 
 // Where that many codes more lead: fewer than are left.
@@ -134,9 +131,7 @@ fn still(walk: Walk) -> Turned
 {
     Turned {
         walk,
-        enters: false,
-        code: 0,
-        labels: no_labels(0),
+        entered: None,
     }
 }
 
@@ -146,12 +141,9 @@ fn closed(w: Walk, place: Place, tries: u32, kind: Kind) -> Walk
 {
     Walk {
         place,
-        left: less(w.left, tries),
-        sized: w.sized,
-        found: w.found,
-        filled: w.filled,
-        going: false,
-        kind,
+        left: w.left.saturating_sub(tries),
+        answer: Some(kind),
+        ..w
     }
 }
 
@@ -159,57 +151,26 @@ fn closed(w: Walk, place: Place, tries: u32, kind: Kind) -> Walk
 pub fn past(w: Walk, next: u16, tries: u32) -> Walk
     ensures { result ≡ past w next tries }
 {
-    let p = w.place;
-    let place = settled(at_code(p, next));
     Walk {
-        place,
-        left: less(w.left, tries),
-        sized: w.sized,
-        found: w.found,
-        filled: w.filled,
-        going: true,
-        kind: Kind::End,
+        place: settled(at_code(w.place, next)),
+        left: w.left.saturating_sub(tries),
+        answer: None,
+        ..w
     }
 }
 
-// What is left of a number, never below 0.
-pub fn less(m: u32, n: u32) -> u32
-    ensures { result ≡ m - n }
+// A refusal for size is counted. The count never passes the budget, so it never comes to the end of its type.
+fn refused_by(v: Walk, r: Refusal) -> Walk
+    ensures { result ≡ refused_by v (number_of r) }
 {
-    if n < m { m - n } else { 0 }
-}
-
-// A refusal by 8 or 9 is counted as one for size.
-fn refused_by(v: Walk, number: u8) -> Walk
-    ensures { result ≡ refused_by v number }
-{
-    match number {
-        8 => one_sized(v),
-        9 => one_sized(v),
+    match r {
+        Refusal::TooDeep | Refusal::NoRoom => Walk {
+            sized: v.sized.saturating_add(1),
+            answer: None,
+            ..v
+        },
         _ => v,
     }
-}
-
-fn one_sized(v: Walk) -> Walk
-    ensures { result ≡ one_sized v }
-{
-    let place = v.place;
-    Walk {
-        place,
-        left: v.left,
-        sized: one_try_more(v.sized),
-        found: v.found,
-        filled: v.filled,
-        going: true,
-        kind: Kind::End,
-    }
-}
-
-// One more; a count of tries never passes the budget, so it never comes to the end of its type.
-fn one_try_more(n: u32) -> u32
-    ensures { result ≡ one_try_more n }
-{
-    if n < 4294967295 { n + 1 } else { n }
 }
 
 // The schedule goes to the lent room; the walk goes on while there is room for another.
@@ -217,21 +178,22 @@ fn found(room: &mut [u8], v: Walk, q: Place, filled: u16) -> Walk
     ensures { held result room.new ≡ found_on room.old v q filled }
 {
     write_schedule(room, v.found, q);
-    let n = one_try_more(v.found);
-    let place = v.place;
-    stands_at(v, n, place, filled, (n as usize) < room_for(room))
-}
-
-pub fn stands_at(v: Walk, found: u32, place: Place, filled: u16, going: bool) -> Walk
-    ensures { result ≡ stands_at v found place filled going }
-{
+    let found = v.found.saturating_add(1);
     Walk {
-        place,
-        left: v.left,
-        sized: v.sized,
         found,
         filled,
-        going,
-        kind: Kind::Found,
+        answer: found_all(found, room),
+        ..v
+    }
+}
+
+// Found where the room is full; none while it takes another schedule.
+pub fn found_all(found: u32, room: &[u8]) -> Option<Kind>
+    ensures { result ≡ found_all found room.now }
+{
+    if (found as usize) < room_for(room) {
+        None
+    } else {
+        Some(Kind::Found)
     }
 }

@@ -1,45 +1,17 @@
--- The laws that the proofs of the functions share: one turn of each loop.
-use Prim.Native.Nat.{ℕ, zero, suc, ◌+◌, ◌-◌, ◌<◌, ◌≤◌}
-use mathlib.Core.Bool.{true, false}
-use mathlib.Core.List.{List, ◌∷◌, ◌++◌, append-nil, append_assoc}
+-- What is known of a list that is made place by place.
+use Prim.Native.Nat.{ℕ, zero, suc, ◌+◌, ◌<◌}
 use mathlib.Core.Path.{◌≡◌, refl, ap, ◌∙◌}
-use native.Mathlib.Numerals.{add-one, sub-one}
-use native.Mathlib.Nat.{sub-add-eq, sub-eq-zero_of_le}
 use native.Mathlib.Omega.{arith}
-use lib.ListN.{length, get_or, take, drop, set, drop_of_length-le}
-use lib.Seq.{drop-cons, take-suc-set, take_all}
-use Rattle.state.specs.Slot.{slot_in, lowest_in}
+use mathlib.Core.Bool.{Bool, true, false}
+use mathlib.Core.List.{List}
+use lib.Dec.{ltb}
+use lib.ListN.{length, get_or, set}
+use lib.Seq.{set_out}
+use borrow.Author.Tests.{ltb-false}
+use Rattle.terms.specs.Base.{pick}
 use Rattle.state.specs.Control.{up_from}
 
--- the lowest free slot: one slot
-module _ (l : List ℕ) (i : ℕ) where
-  pub lowest_here : i < length l → (slot_in (get_or l i 0)).live ≡ false → lowest_in i (drop i l) ≡ i
-  unfolding lowest_in
-  lowest_here h e = rw (drop-cons l i 0 h, e)
-
-  pub lowest_on : i < length l → (slot_in (get_or l i 0)).live ≡ true → lowest_in i (drop i l) ≡ lowest_in (i + 1) (drop (i + 1) l)
-  unfolding lowest_in
-  lowest_on h e = rw (drop-cons l i 0 h, e, add-one)
-
-  pub lowest_end : length l ≤ i → lowest_in i (drop i l) ≡ i
-  unfolding lowest_in
-  lowest_end h = rw (drop_of_length-le l h)
-
--- a list that is filled place by place: what stands already, and what is still to come
 module _ {A : Type 0} (f : ℕ → A) where
-  up_step : (n i : ℕ) → 0 < n → up_from f n i ≡ f i ∷ up_from f (n - 1) (i + 1)
-  unfolding up_from
-  up_step zero i h = absurd (omega arith)
-  up_step (suc n) i h = rw sub-one
-
-  pub up_more : (l : List A) (n i : ℕ) → i < n → i < length l
-      → take (i + 1) (set l i (f i)) ++ up_from f (n - (i + 1)) (i + 1) ≡ take i l ++ up_from f (n - i) i
-  up_more l n i h k = rw (sub-add-eq, up_step (n - i) i (omega arith), add-one, take-suc-set l i (f i) k, append_assoc)
-
-  pub up_end : (l : List A) (n i : ℕ) → n ≤ i → length l ≤ i → take i l ++ up_from f (n - i) i ≡ l
-  unfolding up_from
-  up_end l n i h k = rw (sub-eq-zero_of_le h, append-nil, take_all i l k)
-
   -- the element at a place
   pub up_at : (n i k : ℕ) (d : A) → k < n → get_or (up_from f n i) k d ≡ f (i + k)
   unfolding up_from
@@ -51,3 +23,11 @@ module _ {A : Type 0} (f : ℕ → A) where
   unfolding up_from
   up_long zero i = refl
   up_long (suc n) i = ap suc (up_long n (i + 1))
+
+-- what is put at a place is put where there is such a place
+put_by : {A : Type 0} (l : List A) (i : ℕ) (v : A) (b : Bool) → ltb i (length l) ≡ b → set l i v ≡ pick b (set l i v) l
+put_by l i v true e = refl
+put_by l i v false e = set_out l i v (ltb-false i (length l) e)
+
+pub put_at : {A : Type 0} (l : List A) (n i : ℕ) (v : A) → length l ≡ n → set l i v ≡ pick (ltb i n) (set l i v) l
+put_at l n i v e = rw (← e) (put_by l i v (ltb i (length l)) refl)

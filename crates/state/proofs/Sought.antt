@@ -69,20 +69,6 @@ hand_way k p q = rw (le-ltb k 12 (omega arith), le-ltb k 16 p, lt-ltb k 160 q)
 -- The slots that are passed
 
 module _ (slots actions : List ℕ) where
-  sender_step : (n i : ℕ) → 0 < n → sender_in n slots actions i ≡ pick (sends slots actions i) i (sender_in (n - 1) slots actions (i + 1))
-  unfolding sender_in
-  sender_step zero i h = absurd (omega arith)
-  sender_step (suc n) i h = rw sub-one
-
-  -- one turn of the loop, and its end
-  pub sender_more : (i : ℕ) → i < 12 → next_sender slots actions i ≡ pick (sends slots actions i) i (next_sender slots actions (i + 1))
-  unfolding next_sender
-  sender_more i h = rw (sub-add-eq, sender_step (12 - i) i (omega arith))
-
-  pub sender_end : (i : ℕ) → 12 ≤ i → next_sender slots actions i ≡ 12
-  unfolding next_sender sender_in
-  sender_end i h = rw (sub-eq-zero_of_le h)
-
   passed_by : (a b : Bool) (n i k : ℕ) → sends slots actions i ≡ a → eqb k i ≡ b → i ≤ k
       → (i + 1 ≤ k → k < sender_in n slots actions (i + 1) → sends slots actions k ≡ false)
       → k < pick a i (sender_in n slots actions (i + 1)) → sends slots actions k ≡ false

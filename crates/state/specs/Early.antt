@@ -1,6 +1,6 @@
 -- Refusals 1 to 7 of 'Turned down': what can be said of a code by reading threads, locks and the model. Each reason is
 -- a test of its own, and they stand in one list in the order of their numbers.
-use Rattle.std.specs.Prelude.{ℕ, Bool, true, false, not, List, [], ◌∷◌, eqb, leb}
+use Rattle.std.specs.Prelude.{ℕ, Bool, true, false, not, Result, Ok, Err, List, [], ◌∷◌, eqb, ltb, leb}
 use Rattle.terms.specs.Base.{pick, also}
 use Rattle.model.specs.Fields.{either, names_location}
 use Rattle.model.specs.Records.{action_at, location_at}
@@ -9,6 +9,8 @@ use Rattle.state.specs.Reason.{Reason, reason, first_of}
 use Rattle.state.specs.Slot.{slot_at}
 use Rattle.state.specs.Lock.{lock_at, bars_to, is_held_by}
 use Rattle.state.specs.Code.{way_of}
+use Rattle.state.specs.declared.refusal.Refusal.{Refusal}
+use Rattle.state.specs.declared.refusal.Refusal.TheVariants.{Nobody, StepsMade}
 use Rattle.state.specs.declared.slot.Slot.{Slot}
 use Rattle.state.specs.declared.control.Frame.{Frame}
 use Rattle.state.specs.declared.code.Way.{Way}
@@ -114,3 +116,10 @@ refusal_of g w = first_of (reasons g w)
 
 unfoldable pub early_of : Sight → ℕ → ℕ
 early_of g c = refusal_of g (way_of c)
+
+-- 2 and 4 as the code asks them: the thread of a slot, and that a step is left
+unfoldable pub thread_or : Slot → Result Slot Refusal
+thread_or s = pick s.live (Ok s) (Err Nobody)
+
+unfoldable pub steps_or : ℕ → Result (Unit {0}) Refusal
+steps_or n = pick (ltb n 60000) (Ok tt) (Err StepsMade)

@@ -6,6 +6,7 @@ pub mod Lock
 pub mod Code
 pub mod Control
 pub mod Reason
+pub mod Refusal
 pub mod Early
 pub mod Seek
 pub mod Each

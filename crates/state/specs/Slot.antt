@@ -1,5 +1,5 @@
 -- A slot: free, or a live thread that stands before an action of its program. "12 slots": a list of twelve numbers.
-use Rattle.std.specs.Prelude.{ℕ, ◌+◌, ◌*◌, ◌/◌, ◌%◌, ◌≤◌, true, false, List, [], ◌∷◌, ◌≡◌, get_or, eqb, ltb}
+use Rattle.std.specs.Prelude.{ℕ, ◌+◌, ◌*◌, ◌/◌, ◌%◌, true, false, Option, Some, None, List, [], ◌∷◌, get_or, eqb, ltb}
 use Rattle.terms.specs.Base.{pick}
 use Rattle.terms.specs.Line.{bit_of}
 use Rattle.state.specs.declared.slot.Slot.{Slot}
@@ -40,6 +40,6 @@ lowest_in i (n ∷ ns) = pick (slot_in n).live (lowest_in (i + 1) ns) i
 unfoldable pub lowest_free : List ℕ → ℕ
 lowest_free l = lowest_in 0 l
 
-pub record Lowest (l : List ℕ) (r : ℕ) : Type 0 where
-  pub is : r ≡ lowest_free l
-  pub small : r ≤ 12
+-- the same where there is one
+unfoldable pub free_slot : List ℕ → Option ℕ
+free_slot l = pick (ltb (lowest_free l) 12) (Some (lowest_free l)) None

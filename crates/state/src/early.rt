@@ -1,110 +1,94 @@
-// Refusals 1 to 7: what can be said of a code by reading threads, locks and the model. 0 means that none of them
-// holds. The number is that of the first reason that holds.
-ghost use Rattle.std.specs.Prelude.{◌≡◌, []};
+// Refusals 1 to 7: what can be said of a code by reading threads, locks and the model. The refusal is the first whose
+// reason holds.
+#![tactic(auto, unfolding(crate::specs::Early::next_action, crate::specs::Early::is_elsewhere, crate::specs::Early::locked_out, crate::specs::Early::refusal_of, crate::specs::Early::early_of, crate::specs::Early::thread_or, crate::specs::Early::steps_or))]
+
+ghost use Rattle.std.specs.Prelude.{◌≡◌};
 ghost use Rattle.state.specs.declared.code.Way.TheVariants as Ways;
-ghost use Rattle.state.specs.Early.{sight, next_action, is_elsewhere, locked_out, refusal_of, early_of};
+ghost use Rattle.state.specs.Slot.{slot_at};
+ghost use Rattle.state.specs.Refusal.{refused_in};
+ghost use Rattle.state.specs.Early.{sight_of, thread_or, steps_or, next_action, is_elsewhere, locked_out, refusal_of, early_of};
 
 use crate::code::{Way, way_of};
-use crate::control::Control;
+use crate::control::{Control, Frame};
 use crate::lock::{bars, is_held_by, lock_at};
+use crate::refusal::Refusal;
 use crate::slot::{Slot, slot_at};
 use model::fields::names_location;
-use model::records::{Action, action_at, location_at};
+use model::records::{Action, Model, action_at, location_at};
 
-pub fn early<'a, 'b>(
-    slots: &'a [u64; 12],
-    locks: &'a [u32; 32],
-    steps: u16,
-    actions: &'b [u64; 512],
-    locations: &'b [u32; 32],
-    machines: u8,
-    code: u16,
-) -> u8
-    ensures { result ≡ early_of (sight slots.now locks.now steps actions.now locations.now machines) code }
+pub fn early(f: &Frame, m: &Model, code: u16) -> Result<(), Refusal>
+    ensures { refused_in result ≡ early_of (sight_of f.now m.now.actions m.now.locations m.now.machine_count) code }
 {
-    let w = way_of(code);
-    match w {
-        Way::Nothing => 1,
-        Way::Advance(i) => early_advance(slots, locks, steps, actions, locations, i),
-        Way::Hand(i, j) => early_hand(slots, steps, actions, i, j),
-        Way::Reset(m) => early_reset(steps, machines, m),
+    match way_of(code) {
+        Way::Nothing => Err(Refusal::NoCode),
+        Way::Advance(i) => early_advance(f, m, i),
+        Way::Hand(i, j) => early_hand(f, m, i, j),
+        Way::Reset(k) => early_reset(f, m, k),
     }
 }
 
-fn early_advance<'a, 'b>(
-    slots: &'a [u64; 12],
-    locks: &'a [u32; 32],
-    steps: u16,
-    actions: &'b [u64; 512],
-    locations: &'b [u32; 32],
-    i: u8,
-) -> u8
-    ensures { result ≡ refusal_of (sight slots.now locks.now steps actions.now locations.now 0) (Ways.Advance i) }
+fn early_advance(f: &Frame, m: &Model, i: u8) -> Result<(), Refusal>
+    ensures { refused_in result ≡ refusal_of (sight_of f.now m.now.actions m.now.locations m.now.machine_count) (Ways.Advance i) }
 {
-    let s = slot_at(slots, i);
-    if !s.live {
-        return 2;
-    }
-    if Control::STEPS <= steps {
-        return 4;
-    }
-    let a = next_action(actions, s);
-    if a.op == 5 {
-        return 5;
-    }
-    if a.op == 6 {
-        return 5;
+    let s = live_thread(f, i)?;
+    steps_left(f)?;
+    let a = next_action(&m.actions, s);
+    if a.op == 5 || a.op == 6 {
+        return Err(Refusal::OtherAction);
     }
     if !names_location(a.op) {
-        return 0;
+        return Ok(());
     }
-    if elsewhere(locations, a.loc, s.machine) {
-        return 6;
+    if elsewhere(&m.locations, a.loc, s.machine) {
+        return Err(Refusal::Elsewhere);
     }
-    if locked_out(locks, a, s.serial) {
-        return 7;
+    if locked_out(&f.locks, a, s.serial) {
+        return Err(Refusal::LockedOut);
     }
-    0
+    Ok(())
 }
 
-fn early_hand(slots: &[u64; 12], steps: u16, actions: &[u64; 512], i: u8, j: u8) -> u8
-    ensures { result ≡ refusal_of (sight slots.now [] steps actions.now [] 0) (Ways.Hand i j) }
+fn early_hand(f: &Frame, m: &Model, i: u8, j: u8) -> Result<(), Refusal>
+    ensures { refused_in result ≡ refusal_of (sight_of f.now m.now.actions m.now.locations m.now.machine_count) (Ways.Hand i j) }
 {
-    let s = slot_at(slots, i);
-    if !s.live {
-        return 2;
-    }
-    let r = slot_at(slots, j);
-    if !r.live {
-        return 2;
-    }
+    let s = live_thread(f, i)?;
+    let r = live_thread(f, j)?;
     if i == j {
-        return 3;
+        return Err(Refusal::OneSlot);
     }
-    if Control::STEPS <= steps {
-        return 4;
+    steps_left(f)?;
+    if next_action(&m.actions, s).op != 5 || next_action(&m.actions, r).op != 6 {
+        return Err(Refusal::OtherAction);
     }
-    let a = next_action(actions, s);
-    if a.op != 5 {
-        return 5;
-    }
-    let b = next_action(actions, r);
-    if b.op != 6 {
-        return 5;
-    }
-    0
+    Ok(())
 }
 
-fn early_reset(steps: u16, machines: u8, m: u8) -> u8
-    ensures { result ≡ refusal_of (sight [] [] steps [] [] machines) (Ways.Reset m) }
+fn early_reset(f: &Frame, m: &Model, k: u8) -> Result<(), Refusal>
+    ensures { refused_in result ≡ refusal_of (sight_of f.now m.now.actions m.now.locations m.now.machine_count) (Ways.Reset k) }
 {
-    if machines <= m {
-        return 2;
+    if m.machine_count <= k {
+        return Err(Refusal::Nobody);
     }
-    if Control::STEPS <= steps {
-        return 4;
+    steps_left(f)
+}
+
+// The thread in a slot.
+fn live_thread(f: &Frame, i: u8) -> Result<Slot, Refusal>
+    ensures { result ≡ thread_or (slot_at f.now.slots i) }
+{
+    let s = slot_at(&f.slots, i);
+    if s.live { Ok(s) } else { Err(Refusal::Nobody) }
+}
+
+// No schedule has more than so many steps.
+fn steps_left(f: &Frame) -> Result<(), Refusal>
+    ensures { result ≡ steps_or f.now.steps }
+{
+    if f.steps < Control::STEPS {
+        Ok(())
+    } else {
+        Err(Refusal::StepsMade)
     }
-    0
 }
 
 // The action that a thread stands before.
@@ -117,8 +101,7 @@ pub fn next_action(actions: &[u64; 512], s: Slot) -> Action
 fn elsewhere(locations: &[u32; 32], loc: u16, machine: u8) -> bool
     ensures { result ≡ is_elsewhere locations.now loc machine }
 {
-    let l = location_at(locations, loc);
-    l.machine != machine
+    location_at(locations, loc).machine != machine
 }
 
 // Reading is never barred; write, extend and lock need the location free or their own, unlock needs it their own.
@@ -126,11 +109,9 @@ fn locked_out(locks: &[u32; 32], a: Action, serial: u16) -> bool
     ensures { result ≡ locked_out locks.now a serial }
 {
     let l = lock_at(locks, a.loc);
-    if a.op == 0 {
-        return false;
+    match a.op {
+        0 => false,
+        4 => !is_held_by(l, serial),
+        _ => bars(l, serial),
     }
-    if a.op == 4 {
-        return !is_held_by(l, serial);
-    }
-    bars(l, serial)
 }

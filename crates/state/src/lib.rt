@@ -4,6 +4,7 @@
 //   slot, lock      a thread in its slot and a lock on its location, each as one exact number
 //   control         the frame, the configuration beside its term table, and the fresh one
 //   code            step codes decided by ranges, and how many there are
+//   refusal         why a code is turned down
 //   early           refusals 1 to 7, which only read
 //   seek            the next code that those let through
 //   moves           what an action does to its thread and to locks
@@ -18,6 +19,7 @@ pub mod ended;
 pub mod launch;
 pub mod lock;
 pub mod moves;
+pub mod refusal;
 pub mod reset;
 pub mod seek;
 pub mod slot;

@@ -1,11 +1,12 @@
 // A lock as one exact number: held * 2^16 + the serial of the thread that holds it. The mark is needed, as serial 0 is
-// a real holder; the holder is named by its serial and not by its slot, and may have ended.
-ghost use Rattle.std.specs.Prelude.{◌≡◌, length};
+// a real holder; the holder is named by its serial and not by its slot, and may have ended. A mark and no Option, as in a
+// slot: lock_in reads any number, and the definitions and theorems speak of both fields.
+#![tactic(auto, using(model::proofs::Places::record_there, model::proofs::Places::bit_is), unfolding(crate::specs::Lock::pack_lock, crate::specs::Lock::lock_in, crate::specs::Lock::lock_at, crate::specs::Lock::held_by, crate::specs::Lock::bars_to, crate::specs::Lock::is_held_by))]
+
+ghost use Rattle.std.specs.Prelude.{◌≡◌};
 ghost use Rattle.state.specs.Lock.{pack_lock, lock_in, lock_at, held_by, bars_to, is_held_by};
 
-use terms::line::bit;
-
-#[derive(Clone, Copy)]
+#[derive(Clone, Copy, PartialEq, Eq)]
 pub struct Lock {
     pub held: bool,
     pub serial: u16,
@@ -14,37 +15,24 @@ pub struct Lock {
 pub fn pack_lock(l: Lock) -> u32
     ensures { result ≡ pack_lock l }
 {
-    let held = bit(l.held) as u32;
-    let serial = l.serial as u32;
-    held * 65536 + serial
+    u32::from(l.held) * 65536 + u32::from(l.serial)
 }
 
 // A number made by pack_lock is read back whole; of any other number the fields are what stands in their places.
 pub fn lock_in(n: u32) -> Lock
     ensures { result ≡ lock_in n }
 {
-    let held = n / 65536 % 2 == 1;
-    let serial = (n % 65536) as u16;
-    Lock { held, serial }
-}
-
-// What the type says of the locks, said to the prover: they are thirty-two. It does nothing.
-pub fn known_locks(locks: &[u32; 32])
-    ensures { length locks.now ≡ 32 }
-{
-    let s: &[u32] = locks;
+    Lock {
+        held: n / 65536 % 2 == 1,
+        serial: (n % 65536) as u16,
+    }
 }
 
 // The lock at a location, a free one where there is none.
 pub fn lock_at(locks: &[u32; 32], loc: u16) -> Lock
     ensures { result ≡ lock_at locks.now loc }
 {
-    let i = loc as usize;
-    if i < 32 {
-        lock_in(locks[i])
-    } else {
-        lock_in(0)
-    }
+    lock_in(locks.get(usize::from(loc)).copied().unwrap_or(0))
 }
 
 // The number of a lock held by a thread.
@@ -58,12 +46,12 @@ pub fn held_by(serial: u16) -> u32
 pub fn bars(l: Lock, serial: u16) -> bool
     ensures { result ≡ bars_to l serial }
 {
-    if l.held { l.serial != serial } else { false }
+    l.held && l.serial != serial
 }
 
 // Held by this thread.
 pub fn is_held_by(l: Lock, serial: u16) -> bool
     ensures { result ≡ is_held_by l serial }
 {
-    if l.held { l.serial == serial } else { false }
+    l.held && l.serial == serial
 }

@@ -1,7 +1,9 @@
 // What an action does to locks, nonces and its thread. The frame has no label in it; values and variables, plain lists of
 // labels, are changed by the crate above.
-ghost use Rattle.std.specs.Prelude.{◌≡◌};
-ghost use Rattle.state.specs.Moves.{with_slot, with_at, locked, Last, moved_on, jumped_to, nonce_after};
+#![tactic(auto, using(crate::proofs::Laws::put_at), unfolding(crate::specs::Moves::with_at, crate::specs::Moves::with_slot, crate::specs::Moves::locked, crate::specs::Moves::is_last, crate::specs::Moves::moved_on, crate::specs::Moves::jumped_to, crate::specs::Moves::nonce_after))]
+
+ghost use Rattle.std.specs.Prelude.{◌≡◌, set};
+ghost use Rattle.state.specs.Moves.{with_slot, locked, Last, moved_on, jumped_to, nonce_after};
 
 use crate::control::one_more;
 use crate::lock::held_by;
@@ -12,40 +14,34 @@ use model::records::{Action, length_at};
 pub fn locked(locks: &mut [u32; 32], a: Action, serial: u16)
     ensures { locks.new ≡ locked locks.old a serial }
 {
-    let op = a.op;
-    match op {
-        3 => with_lock(locks, a.loc, held_by(serial)),
-        4 => with_lock(locks, a.loc, 0),
+    match a.op {
+        3 => put(locks, usize::from(a.loc), held_by(serial)),
+        4 => put(locks, usize::from(a.loc), 0),
         _ => {}
     }
 }
 
-fn with_lock(locks: &mut [u32; 32], loc: u16, n: u32)
-    ensures { locks.new ≡ with_at locks.old loc n }
+// The element at a place becomes x; where there is no such place all stays as it is.
+pub fn put<T: Copy>(xs: &mut [T], i: usize, x: T)
+    ensures { xs.new ≡ set xs.old i x }
 {
-    let i = loc as usize;
-    if i < 32 {
-        locks[i] = n;
+    // kept: of a slice that get_mut lent a proof knows no element
+    if i < xs.len() {
+        xs[i] = x;
     }
 }
 
 pub fn with_slot(slots: &mut [u64; 12], i: u8, n: u64)
     ensures { slots.new ≡ with_slot slots.old i n }
 {
-    let j = i as usize;
-    if j < 12 {
-        slots[j] = n;
-    }
+    put(slots, usize::from(i), n);
 }
 
 // The thread stands before its last action.
 pub fn is_last(lengths: &[u8; 32], s: Slot) -> bool
     ensures { Last lengths.now s result }
 {
-    let n = length_at(lengths, s.program);
-    let length = n as u16;
-    let next = s.position as u16 + 1;
-    length <= next
+    u16::from(length_at(lengths, s.program)) <= u16::from(s.position) + 1
 }
 
 // The number of a slot whose thread has made its action: the next position, or free after the last.
@@ -55,14 +51,10 @@ pub fn moved_on(lengths: &[u8; 32], s: Slot) -> u64
     if is_last(lengths, s) {
         return 0;
     }
-    let next = s.position + 1;
     pack_slot(Slot {
         live: true,
-        serial: s.serial,
-        agent: s.agent,
-        machine: s.machine,
-        program: s.program,
-        position: next,
+        position: s.position + 1,
+        ..s
     })
 }
 
@@ -72,11 +64,9 @@ pub fn jumped(s: Slot, program: u8) -> u64
 {
     pack_slot(Slot {
         live: true,
-        serial: s.serial,
-        agent: s.agent,
-        machine: s.machine,
         program,
         position: 0,
+        ..s
     })
 }
 

@@ -1,11 +1,13 @@
 // Reset, threads and locks: every thread on the machine ends, and every lock on it is freed. A boot thread takes the
 // lowest free slot and, if the machine is protected, all its static registers.
+#![tactic(auto, using(crate::proofs::Live::zero_free), unfolding(crate::specs::Reset::boot_thread, crate::specs::Reset::slot_reset, crate::specs::Reset::is_on, crate::specs::Reset::lock_reset))]
+
 ghost use Rattle.std.specs.Prelude.{◌≡◌};
 ghost use Rattle.state.specs.Reset.{is_on, slot_reset, slots_reset, boot_thread, lock_reset, locks_reset, slots_booted};
 
-use crate::lock::{held_by, known_locks};
+use crate::lock::held_by;
 use crate::moves::with_slot;
-use crate::slot::{Slot, known_slots, lowest_free, pack_slot, slot_in};
+use crate::slot::{Slot, lowest_free, pack_slot, slot_in};
 use model::records::{Machine, location_in};
 
 // Every thread on the machine has ended, and a boot thread stands in the lowest free slot.
@@ -13,8 +15,9 @@ pub fn slots_booted(slots: &mut [u64; 12], machine: Machine, m: u8, serial: u16)
     ensures { slots.new ≡ slots_booted slots.old machine m serial }
 {
     slots_reset(slots, m);
-    let free = lowest_free(slots);
-    with_slot(slots, free, boot_thread(machine, m, serial));
+    if let Some(i) = lowest_free(slots) {
+        with_slot(slots, i, boot_thread(machine, m, serial));
+    }
 }
 
 // A boot thread has agent 0.
@@ -34,11 +37,9 @@ fn boot_thread(machine: Machine, m: u8, serial: u16) -> u64
 fn slots_reset(slots: &mut [u64; 12], m: u8)
     ensures { slots.new ≡ slots_reset slots.old m }
 {
-    known_slots(slots);
-    let mut i = 0;
-    while i < 12 {
-        slots[i] = slot_reset(slots[i], m);
-        i += 1;
+    // in place, as an array's map copies and a search resets often
+    for n in slots.iter_mut() {
+        *n = slot_reset(*n, m);
     }
 }
 
@@ -56,7 +57,7 @@ pub fn is_on(n: u64, m: u8) -> bool
         return false;
     }
     let s = slot_in(n);
-    if s.live { s.machine == m } else { false }
+    s.live && s.machine == m
 }
 
 pub fn locks_reset(
@@ -68,11 +69,9 @@ pub fn locks_reset(
 )
     ensures { locks.new ≡ locks_reset locks.old locations.now m protected serial }
 {
-    known_locks(locks);
-    let mut i = 0;
-    while i < 32 {
-        locks[i] = lock_reset(locks[i], locations[i], m, protected, serial);
-        i += 1;
+    // by number: of what iter_mut zipped with the locations lends a proof knows no element
+    for (i, lock) in locks.iter_mut().enumerate() {
+        *lock = lock_reset(*lock, locations[i], m, protected, serial);
     }
 }
 
@@ -83,8 +82,9 @@ fn lock_reset(lock: u32, location: u32, m: u8, protected: bool, serial: u16) -> 
     if l.machine != m {
         return lock;
     }
-    if !protected {
-        return 0;
+    if protected && l.kind == 2 {
+        held_by(serial)
+    } else {
+        0
     }
-    if l.kind == 2 { held_by(serial) } else { 0 }
 }

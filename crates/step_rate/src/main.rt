@@ -3,13 +3,11 @@
 // number of tries that were permitted.
 #![tactic(auto)]
 
-ghost use Rattle.std.specs.Prelude.{◌≤◌};
-
 use intake::read_input;
 use model::records::{
     Action, Claim, Listed, Machine, Model, pack_action, pack_machine, pack_thread,
 };
-use rules::inner::{Reply, Stepped, try_step};
+use rules::inner::try_step;
 use state::control::Control;
 use std::io;
 use terms::entry::add;
@@ -17,8 +15,10 @@ use terms::table::{Table, cut};
 use terms::term::Term;
 
 fn entered(t: &mut [u64; 512], count: u16, kind: u8, a: u16, b: u16) -> u16 {
-    let r = add(t, count, Term { kind, a, b });
-    r.count
+    match add(t, count, Term { kind, a, b }) {
+        Ok(added) => added.count,
+        Err(_) => count,
+    }
 }
 
 fn action(op: u8, x: u16) -> u64 {
@@ -90,30 +90,6 @@ fn model() -> Model {
     }
 }
 
-fn step(t: &mut [u64; 512], m: Model, s: Control, code: u16) -> Control {
-    let r = try_step(
-        t,
-        s,
-        &m.actions,
-        &m.lengths,
-        &m.machines,
-        m.machine_count,
-        &m.locations,
-        code,
-    );
-    r.control
-}
-
-fn permitted(r: Stepped) -> u32
-    ensures { result ≤ 1 }
-{
-    let reply = r.reply;
-    match reply {
-        Reply::Refused(_) => 0,
-        Reply::Permitted(_) => 1,
-    }
-}
-
 fn code_for(byte: u8) -> u16 {
     match byte {
         b'1' => 160,
@@ -123,25 +99,18 @@ fn code_for(byte: u8) -> u16 {
     }
 }
 
-fn tries(m: Model, code: u16) -> u32 {
+// Two steps are made first, so that the third action of program 1 comes next.
+fn tries(m: &Model, code: u16) -> u32 {
     let mut t = m.lines;
-    let first = step(&mut t, m, Control::fresh(m), 1);
-    let s = step(&mut t, m, first, 1);
+    let mut s = Control::fresh(m);
+    let _ = try_step(&mut t, &mut s, m, 1);
+    let _ = try_step(&mut t, &mut s, m, 1);
     let mut sum = 0u32;
     for i in 0..2000000u32 {
-        let r = try_step(
-            &mut t,
-            s,
-            &m.actions,
-            &m.lengths,
-            &m.machines,
-            m.machine_count,
-            &m.locations,
-            code,
-        );
-        let after = r.control;
+        let mut after = s;
+        let permitted = try_step(&mut t, &mut after, m, code).is_ok();
         cut(&mut t, s.count, after.count);
-        sum += permitted(r);
+        sum += u32::from(permitted);
     }
     sum
 }
@@ -149,6 +118,6 @@ fn tries(m: Model, code: u16) -> u32 {
 fn main(rt: HostRuntime) -> io::Result<()> {
     let mut byte = [0u8; 1];
     read_input(&rt, &mut byte)?;
-    let sum = tries(model(), code_for(byte[0]));
+    let sum = tries(&model(), code_for(byte[0]));
     println!(rt; "{sum}")
 }

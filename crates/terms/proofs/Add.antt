@@ -10,6 +10,7 @@ use lib.ListN.{length, get_or, set, length-set}
 use lib.Seq.{take-set-le, get_or-set_same, get_or-set_other, get_or_at}
 use lib.Dec.{ltb, eqb}
 use borrow.Author.Tests.{ltb-true, ltb-false}
+use Rattle.std.specs.Prelude.{Option, Some, None}
 use Rattle.terms.proofs.Laws.{below_or, free_none, free_some}
 use Rattle.terms.specs.Base.{pick, held, larger_of}
 use Rattle.terms.specs.Term.{shape_of, in_limits, parts_by, parts_below, after_by, after_parts}
@@ -24,9 +25,7 @@ use Rattle.terms.specs.declared.term.Term.{Term}
 use Rattle.terms.specs.declared.term.Shape.{Shape}
 use Rattle.terms.specs.declared.term.Shape.TheVariants.{Bare, Number, Variable, Sealed, Hashed, Applied, Joined, Unknown}
 use Rattle.terms.specs.declared.line.Grade.{Grade}
-use Rattle.terms.specs.declared.table.Found.{Found}
-use Rattle.terms.specs.declared.table.Found.TheVariants.{At, Nothing}
-use Rattle.terms.specs.declared.table.Outcome.TheVariants as O
+use Rattle.terms.specs.Outcome as O
 use Rattle.terms.proofs.Pack.{Small, term_packed}
 use Rattle.terms.proofs.Find.{Found_at, line_hit, line_miss}
 use Rattle.terms.proofs.Meaning.{length_trees, trees_next, also_left, also_right, parts_more, tree_at, grade_depth, depth_right, tree_shallow}
@@ -228,10 +227,10 @@ adds_room {l} {c} S p x F low none true e =
     full (omega (arith, fit_depth S p x F.parts)) (not_member S p x F none) (omega (arith, free_none c e, S.room))
 
 adds_found : {l : List ℕ} {c : ℕ} → Sound l c → length l ≡ 512 → (x : Term) → Fit x c → (grade_of l x).depth ≤ 16
-    → (f : Found) → find_line l (after_parts x) c (new_line l x) ≡ f → Adds l c x (add_by f l c (new_line l x))
-adds_found {l} {c} S p x F low (At i) e =
+    → (f : Option ℕ) → find_line l (after_parts x) c (new_line l x) ≡ f → Adds l c x (add_by f l c (new_line l x))
+adds_found {l} {c} S p x F low (Some i) e =
     listed (omega (arith, fit_depth S p x F.parts)) (line_den S p x F (line_hit l (after_parts x) c (new_line l x) i (omega (arith, S.room, p)) e))
-adds_found {l} {c} S p x F low Nothing e =
+adds_found {l} {c} S p x F low None e =
     adds_room S p x F low (behind_parts S x F (line_miss l (after_parts x) c (new_line l x) (omega (arith, S.room, p)) e)) (eqb (free_of c) 0) refl
 
 adds_by : {l : List ℕ} {c : ℕ} → Sound l c → length l ≡ 512 → (x : Term) → Fit x c → (t : Bool) → ltb 16 (grade_of l x).depth ≡ t
@@ -255,12 +254,12 @@ deep_not_member {l} {c} S p z h = by (member z (trees l c)) refl
         absurd (omega arith)
     by false e = refl
 
-finds_found : {l : List ℕ} {c : ℕ} → Sound l c → length l ≡ 512 → (x : Term) → Fit x c → (f : Found) → find_line l (after_parts x) c (new_line l x) ≡ f → Finds l c x f
-finds_found {l} {c} S p x F (At i) e = at (line_den S p x F (line_hit l (after_parts x) c (new_line l x) i (omega (arith, S.room, p)) e))
-finds_found {l} {c} S p x F Nothing e = nothing (not_member S p x F (behind_parts S x F (line_miss l (after_parts x) c (new_line l x) (omega (arith, S.room, p)) e)))
+finds_found : {l : List ℕ} {c : ℕ} → Sound l c → length l ≡ 512 → (x : Term) → Fit x c → (f : Option ℕ) → find_line l (after_parts x) c (new_line l x) ≡ f → Finds l c x f
+finds_found {l} {c} S p x F (Some i) e = at (line_den S p x F (line_hit l (after_parts x) c (new_line l x) i (omega (arith, S.room, p)) e))
+finds_found {l} {c} S p x F None e = nothing (not_member S p x F (behind_parts S x F (line_miss l (after_parts x) c (new_line l x) (omega (arith, S.room, p)) e)))
 
 finds_by : {l : List ℕ} {c : ℕ} → Sound l c → length l ≡ 512 → (x : Term) → Fit x c → (t : Bool) → ltb 16 (grade_of l x).depth ≡ t
-    → Finds l c x (pick t Nothing (find_line l (after_parts x) c (new_line l x)))
+    → Finds l c x (pick t None (find_line l (after_parts x) c (new_line l x)))
 finds_by {l} {c} S p x F true e =
     nothing (deep_not_member S p (means l c x) (omega (arith, ltb-true 16 (grade_of l x).depth e, fit_depth S p x F.parts)))
 finds_by {l} {c} S p x F false e = finds_found S p x F (find_line l (after_parts x) c (new_line l x)) refl

@@ -9,6 +9,7 @@ use lib.ListN.{length, get_or, set, length-set}
 use lib.Dec.{ltb, eqb}
 use lib.Seq.{get_or-set_other, ext_get_or}
 use borrow.Author.Tests.{ltb-true, ltb-false}
+use Rattle.std.specs.Prelude.{Option, Some, None}
 use Rattle.terms.proofs.Laws.{free_some}
 use Rattle.terms.specs.Base.{pick, filled, Held, held}
 use Rattle.terms.specs.Term.{after_parts}
@@ -18,13 +19,11 @@ use Rattle.terms.specs.Table.{used_of, free_of, cut_to, find_line, added, add_by
 use Rattle.terms.specs.Subbed.{Got, Label, Deep, Full, Subbed}
 use Rattle.terms.specs.Subst.{plan_at, entered_in, first_by, with_first, second_by, with_second, both_by, with_both, then_second, walk_by, subst_in, taken_by, second_operand, after_first, take_both, settled_by, take_operands}
 use Rattle.terms.specs.declared.term.Term.{Term}
-use Rattle.terms.specs.declared.table.Found.{Found}
-use Rattle.terms.specs.declared.table.Found.TheVariants.{At, Nothing}
-use Rattle.terms.specs.declared.table.Outcome.TheVariants as O
+use Rattle.terms.specs.Outcome as O
 use Rattle.terms.specs.declared.subst.Plan.{Plan}
 use Rattle.terms.specs.declared.subst.Plan.TheVariants.{Keep, First, Second, Both}
-use Rattle.terms.specs.declared.subst.Taken.{Taken}
-use Rattle.terms.specs.declared.subst.Taken.TheVariants as T
+use Rattle.terms.specs.Taken.{Taken}
+use Rattle.terms.specs.Taken as T
 
 -- m, of d lines, is l, of c lines, with some more
 pub record Grown (l : List ℕ) (c : ℕ) (m : List ℕ) (d : ℕ) : Type 0 where
@@ -127,11 +126,11 @@ room_grows : (b : Bool) (l : List ℕ) (c n : ℕ) → eqb (free_of c) 0 ≡ b
 room_grows true l c n e = grown_same
 room_grows false l c n e = set_grows l c n (free_some c e)
 
-found_grows : (f : Found) (l : List ℕ) (c n : ℕ) → Grown l c (add_by f l c n).table (add_by f l c n).out.count
-found_grows (At i) l c n = grown_same
-found_grows Nothing l c n = room_grows (eqb (free_of c) 0) l c n refl
+found_grows : (f : Option ℕ) (l : List ℕ) (c n : ℕ) → Grown l c (add_by f l c n).table (add_by f l c n).out.count
+found_grows (Some i) l c n = grown_same
+found_grows None l c n = room_grows (eqb (free_of c) 0) l c n refl
 
-deep_grows : (b : Bool) (f : Found) (l : List ℕ) (c n : ℕ)
+deep_grows : (b : Bool) (f : Option ℕ) (l : List ℕ) (c n : ℕ)
     → Grown l c (pick b (held (added O.Deep c) l) (add_by f l c n)).table (pick b (held (added O.Deep c) l) (add_by f l c n)).out.count
 deep_grows true f l c n = grown_same
 deep_grows false f l c n = found_grows f l c n

@@ -9,6 +9,7 @@ use lib.ListN.{length, get_or, drop}
 use lib.Dec.{ltb, eqb}
 use lib.Seq.{get_or-drop}
 use borrow.Author.Tests.{ltb-true, ltb-false, le-ltb, eqb-true, eq-eqb}
+use Rattle.std.specs.Prelude.{Option, Some, None}
 use Rattle.terms.specs.Base.{pick, also, larger_of}
 use Rattle.terms.specs.Each.{all_from, each}
 use Rattle.terms.specs.Term.{shape_of, in_limits, parts_below}
@@ -17,8 +18,6 @@ use Rattle.terms.specs.Grade.{above_line, above_both, grade_of}
 use Rattle.terms.specs.Table.{fixed_line, fresh_table, find_in, find_line}
 use Rattle.terms.specs.Sound.{fixed_first, is_new, line_sound, all_zero, sound_test, Sound}
 use Rattle.terms.specs.declared.term.Term.{Term}
-use Rattle.terms.specs.declared.table.Found.{Found}
-use Rattle.terms.specs.declared.table.Found.TheVariants.{At, Nothing}
 use Rattle.terms.proofs.Find.{line_miss, miss_line}
 use Rattle.terms.proofs.Meaning.{also_left, also_right, also_both}
 use Rattle.terms.proofs.Each.{each_at, at_each}
@@ -31,9 +30,9 @@ unless_pass false q e = (refl, e)
 pass_unless : {p q : Bool} → p ≡ false → q ≡ true → pick p false q ≡ true
 pass_unless e f = rw (e, f)
 
-new_nothing : (f : Found) → is_new f ≡ true → f ≡ Nothing
-new_nothing (At i) e = let z : ◌≡◌ {A = ℕ} 0 1 = cc in absurd (omega arith)
-new_nothing Nothing e = refl
+new_nothing : (f : Option ℕ) → is_new f ≡ true → f ≡ None
+new_nothing (Some i) e = let z : ◌≡◌ {A = ℕ} 0 1 = cc in absurd (omega arith)
+new_nothing None e = refl
 
 -- all that is left is zero
 zero_at : (l : List ℕ) → all_zero l ≡ true → (i : ℕ) → get_or l i 0 ≡ 0
@@ -53,7 +52,7 @@ record Judged (l : List ℕ) (i : ℕ) : Type 0 where
   parts : parts_below (term_at l i) i ≡ true
   shallow : (grade_of l (term_at l i)).depth ≤ 16
   line : packed (term_at l i) (grade_of l (term_at l i)) ≡ line_at l i
-  new : find_line l 0 i (line_at l i) ≡ Nothing
+  new : find_line l 0 i (line_at l i) ≡ None
 
 judged : (l : List ℕ) (i : ℕ) → line_sound l i ≡ true → Judged l i
 unfolding line_sound

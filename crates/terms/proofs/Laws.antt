@@ -1,9 +1,9 @@
 -- The laws that the proofs of the functions share: what a test tells a definition, one turn of each loop, one step
 -- down of each recursion.
-use Prim.Native.Nat.{ℕ, zero, suc, ◌+◌, ◌-◌, ◌<◌, ◌≤◌, min}
-use mathlib.Core.Bool.{Bool, true, false}
-use mathlib.Core.List.{List}
-use mathlib.Core.Path.{◌≡◌, refl, subst}
+use Prim.Native.Nat.{ℕ, zero, suc, ◌+◌, ◌-◌, ◌<◌, ◌≤◌, min, max}
+use mathlib.Core.Bool.{Bool, true, false, ◌&&◌}
+use mathlib.Core.List.{List, [], ◌∷◌}
+use mathlib.Core.Path.{◌≡◌, refl, ap, ◌∙◌, subst}
 use native.Mathlib.Numerals.{add-one, sub-one}
 use native.Mathlib.Nat.{sub-add-eq, sub-eq-zero_of_le}
 use native.Mathlib.Omega.{arith}
@@ -11,15 +11,33 @@ use lib.ListN.{length, get_or, take, drop, set, length-take, drop_of_length-le}
 use lib.Seq.{drop-cons, get_or-take}
 use lib.Dec.{ltb, eqb}
 use borrow.Author.Tests.{ltb-true, ltb-false, eqb-true, eqb-false, le-leb, lt-leb, lt-ltb, le-ltb, eq-eqb, ne_eqb}
-use Rattle.terms.specs.Base.{pick, filled, held}
+use mir.Val.{bool_byte}
+use Rattle.terms.specs.Line.{bit_of}
+use Rattle.std.specs.Prelude.{Option, Some, None, is_some, not}
+use Rattle.std.specs.List.{list_all}
+use Rattle.terms.proofs.Chains.{and_also}
+use Rattle.terms.specs.Base.{pick, larger_of, filled, held}
 use Rattle.terms.specs.Table.{used_of, free_of, find_in}
 use Rattle.terms.specs.Subbed.{Deep, subbed}
 use Rattle.terms.specs.Subst.{plan_at, fits_by, fits_within, walk_by, subst_in}
-use Rattle.terms.specs.Sound.{all_zero}
-use Rattle.terms.specs.declared.table.Found.TheVariants.{At, Nothing}
+use Rattle.terms.specs.Sound.{is_new, all_zero}
 
 -- a test on numbers, as the branch tells it
 pub ruleset tests = (le-leb, lt-leb, lt-ltb, le-ltb, eq-eqb, ne_eqb)
+
+-- a mark as a number, as `From` gives it
+pub bit_is : (b : Bool) → bool_byte b ≡ bit_of b
+bit_is true = refl
+bit_is false = refl
+
+-- the larger of two, as std says it
+larger_by : (t : Bool) (m n : ℕ) → ltb m n ≡ t → max m n ≡ pick t n m
+larger_by true m n e = omega (arith, ltb-true m n e)
+larger_by false m n e = omega (arith, ltb-false m n e)
+
+pub larger_max : (m n : ℕ) → max m n ≡ larger_of m n
+unfolding larger_of
+larger_max m n = larger_by (ltb m n) m n refl
 
 -- below n, or n itself
 pub below_or : (P : ℕ → Type 0) (n : ℕ) → ((i : ℕ) → i < n → P i) → P n → (i : ℕ) → i < n + 1 → P i
@@ -57,12 +75,16 @@ pub used_long : (l : List ℕ) (c : ℕ) → length l ≡ 512 → length (take c
 unfolding used_of
 used_long l c h = rw length-take (used_by (ltb c 512) c (length l) refl h)
 
+pub used_min : (c : ℕ) → min c 512 ≡ used_of c
+unfolding used_of
+used_min c = used_by (ltb c 512) c 512 refl refl
+
 -- find: one line
 module _ (l : List ℕ) (c n i : ℕ) where
   taken_at : i < length (take c l) → get_or (take c l) i 0 ≡ get_or l i 0
   taken_at h = get_or-take c l i 0 (omega (arith, length-take c l))
 
-  pub find_hit : i < length (take c l) → get_or l i 0 ≡ n → find_in i (drop i (take c l)) n ≡ At i
+  pub find_hit : i < length (take c l) → get_or l i 0 ≡ n → find_in i (drop i (take c l)) n ≡ Some i
   unfolding find_in
   find_hit h e = rw (drop-cons (take c l) i 0 h, taken_at h, eq-eqb _ _ e)
 
@@ -70,7 +92,7 @@ module _ (l : List ℕ) (c n i : ℕ) where
   unfolding find_in
   find_miss h e = rw (drop-cons (take c l) i 0 h, taken_at h, ne_eqb _ _ e, add-one)
 
-  pub find_end : length (take c l) ≤ i → find_in i (drop i (take c l)) n ≡ Nothing
+  pub find_end : length (take c l) ≤ i → find_in i (drop i (take c l)) n ≡ None
   unfolding find_in
   find_end h = rw (drop_of_length-le (take c l) h)
 
@@ -88,14 +110,17 @@ module _ {A : Type 0} (v : A) where
   unfolding filled
   fill_end n i l h = rw sub-eq-zero_of_le
 
--- soundness: one line of those past the terms
-pub zero_more : (l : List ℕ) (i : ℕ) → i < length l → all_zero (drop i l) ≡ pick (eqb (get_or l i 0) 0) (all_zero (drop (i + 1) l)) false
+-- soundness: the lines past the terms, as a chain of std goes over them, and a line that was not found
+pub zero_list : (l : List ℕ) → list_all (λ n. eqb n 0) l ≡ all_zero l
 unfolding all_zero
-zero_more l i h = rw (add-one, drop-cons l i 0 h)
+zero_list [] = refl
+zero_list (n ∷ ns) = ap (λ r. eqb n 0 && r) (zero_list ns) ∙ and_also (eqb n 0) (all_zero ns)
 
-pub zero_end : (l : List ℕ) (i : ℕ) → length l ≤ i → all_zero (drop i l) ≡ true
-unfolding all_zero
-zero_end l i h = rw (drop_of_length-le l h)
+pub new_is : (f : Option ℕ) (r : Bool) → is_some f ≡ not r → r ≡ is_new f
+new_is None true e = refl
+new_is None false e = e
+new_is (Some i) true e = e
+new_is (Some i) false e = refl
 
 -- one step down a term, with room for it and without
 pub fits_zero : (d : ℕ) (l vs : List ℕ) (o i : ℕ) → d ≡ 0 → fits_within d l vs o i ≡ false

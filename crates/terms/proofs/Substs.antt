@@ -21,10 +21,10 @@ use Rattle.terms.specs.Tree.{Tree, sealed, applied, joined, deepness, subst_t, m
 use Rattle.terms.specs.Meaning.{trees, tree_of, means, Den}
 use Rattle.terms.specs.Promise.{Fit, Grows, Each, none, one, Adds, listed, new, Enters, Takes}
 use Rattle.terms.specs.declared.term.Term.{Term}
-use Rattle.terms.specs.declared.table.Added.{Added}
+use Rattle.terms.specs.Outcome.{Added}
 use Rattle.terms.specs.declared.subst.Plan.{Plan}
-use Rattle.terms.specs.declared.subst.Operands.{Operands}
-use Rattle.terms.specs.declared.subst.Taken.TheVariants as T
+use Rattle.terms.specs.Taken.{Operands}
+use Rattle.terms.specs.Taken as T
 use Rattle.terms.proofs.Back.{cut_back, both_operands_grow}
 use Rattle.terms.proofs.Meaning.{length_trees, tree_shallow}
 use Rattle.terms.proofs.Labels.{den_at, den_member}

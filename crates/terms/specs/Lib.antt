@@ -5,8 +5,10 @@ pub mod Each
 pub mod Term
 pub mod Line
 pub mod Grade
+pub mod Outcome
 pub mod Table
 pub mod Subbed
+pub mod Taken
 pub mod Subst
 pub mod Entry
 pub mod Sound

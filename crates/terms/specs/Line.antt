@@ -1,5 +1,5 @@
 -- A line of the table: one exact number for a term, its depth and its ground mark.
-use Rattle.std.specs.Prelude.{ℕ, ◌+◌, ◌*◌, ◌/◌, ◌%◌, ◌<◌, ◌≤◌, ◌^◌, Bool, true, false, List, ◌≡◌, length, get_or, eqb}
+use Rattle.std.specs.Prelude.{ℕ, ◌+◌, ◌*◌, ◌/◌, ◌%◌, Bool, true, false, List, get_or, eqb}
 use Rattle.terms.specs.Term.{term}
 use Rattle.terms.specs.declared.term.Term.{Term}
 use Rattle.terms.specs.declared.line.Grade.{Grade}
@@ -10,10 +10,6 @@ grade d g = record { depth = d; grounded = g }
 abbrev pub bit_of : Bool → ℕ
 bit_of true = 1
 bit_of false = 0
-
-pub record Bit (b : Bool) (r : ℕ) : Type 0 where
-  pub is : r ≡ bit_of b
-  pub small : r ≤ 1
 
 unfoldable pub packed : Term → Grade → ℕ
 packed x g = bit_of g.grounded * 281474976710656 + g.depth * 1099511627776 + x.kind * 4294967296 + x.a * 65536 + x.b
@@ -41,8 +37,3 @@ depth_at l i = depth_in (line_at l i)
 
 abbrev pub ground_at : List ℕ → ℕ → Bool
 ground_at l i = ground_in (line_at l i)
-
--- what the type of a lent table says of it
-pub record Known (l : List ℕ) : Type 0 where
-  pub long : length l ≡ 512
-  pub fits : (i : ℕ) → get_or l i 0 < 2 ^ 64

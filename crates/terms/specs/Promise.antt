@@ -1,8 +1,12 @@
 -- What is promised of adding and substituting, in terms of trees: the statements T2 and T3. The proofs are in proofs/.
-use Rattle.std.specs.Prelude.{ℕ, ◌+◌, ◌<◌, ◌≤◌, max, ◌≡◌, true, false, List, [], ◌∷◌, ◌++◌, length, take}
+use Rattle.std.specs.Prelude.{ℕ, ◌+◌, ◌<◌, ◌≤◌, max, ◌≡◌, true, false, List, [], ◌∷◌, ◌++◌, length, take, Option, None, Some}
 use Rattle.terms.specs.Base.{Held, held}
 use Rattle.terms.specs.Term.{in_limits, parts_below}
 use Rattle.terms.specs.Table.{added}
+use Rattle.terms.specs.Outcome.{Added}
+use Rattle.terms.specs.Outcome as O
+use Rattle.terms.specs.Taken.{Operands}
+use Rattle.terms.specs.Taken as T
 use Rattle.terms.specs.Subbed as G
 use Rattle.terms.specs.Subbed.{Subbed, subbed}
 use Rattle.terms.specs.Subst.{operands}
@@ -10,12 +14,6 @@ use Rattle.terms.specs.Sound.{Sound}
 use Rattle.terms.specs.Tree.{Tree, deepness, member, enter}
 use Rattle.terms.specs.Meaning.{trees, means, Den}
 use Rattle.terms.specs.declared.term.Term.{Term}
-use Rattle.terms.specs.declared.table.Added.{Added}
-use Rattle.terms.specs.declared.table.Found.{Found}
-use Rattle.terms.specs.declared.table.Found.TheVariants as F
-use Rattle.terms.specs.declared.table.Outcome.TheVariants as O
-use Rattle.terms.specs.declared.subst.Operands.{Operands}
-use Rattle.terms.specs.declared.subst.Taken.TheVariants as T
 
 -- a term that may be entered as the next line of a table with c terms
 pub record Fit (x : Term) (c : ℕ) : Type 0 where
@@ -38,9 +36,9 @@ pub data Each {A B : Type 0} (P : A → B → Type 0) : List A → List B → Ty
   one : {a : A} {b : B} {l : List A} {r : List B} → P a b → Each P l r → Each P (a ∷ l) (b ∷ r)
 
 -- Finding a term: a label exactly when it denotes the term, nothing exactly when no label does
-pub data Finds (l : List ℕ) (c : ℕ) (x : Term) : Found → Type 0 where
-  at : {i : ℕ} → Den l c i (means l c x) → Finds l c x (F.At i)
-  nothing : member (means l c x) (trees l c) ≡ false → Finds l c x F.Nothing
+pub data Finds (l : List ℕ) (c : ℕ) (x : Term) : Option ℕ → Type 0 where
+  at : {i : ℕ} → Den l c i (means l c x) → Finds l c x (Some i)
+  nothing : member (means l c x) (trees l c) ≡ false → Finds l c x None
 
 -- T2. Adding a term: "8" exactly when it is deeper than 16; an old label exactly when one denotes it; else a new line, and "9" exactly when there is no room
 pub data Adds (l : List ℕ) (c : ℕ) (x : Term) : Held Added → Type 0 where

@@ -1,5 +1,5 @@
 -- The soundness of a table, as a test on every list of numbers and every count, in the order of the code.
-use Rattle.std.specs.Prelude.{ℕ, ◌<◌, ◌≤◌, ◌≡◌, Bool, true, false, List, [], ◌∷◌, drop, ltb, eqb}
+use Rattle.std.specs.Prelude.{ℕ, ◌<◌, ◌≤◌, ◌≡◌, Bool, true, false, List, [], ◌∷◌, drop, ltb, eqb, Option, None, Some}
 use Rattle.terms.specs.Base.{pick}
 use Rattle.terms.specs.Each.{each}
 use Rattle.terms.specs.Term.{in_limits, parts_below}
@@ -7,8 +7,6 @@ use Rattle.terms.specs.Line.{line_at, term_at, packed}
 use Rattle.terms.specs.Grade.{grade_of}
 use Rattle.terms.specs.Table.{find_line, fixed_line}
 use Rattle.terms.specs.declared.line.Grade.{Grade}
-use Rattle.terms.specs.declared.table.Found.{Found}
-use Rattle.terms.specs.declared.table.Found.TheVariants.{At, Nothing}
 
 -- "Labels 0, 1, 2 are always number 0, sinit, dinit"
 unfoldable pub fixed_first : List ℕ → Bool
@@ -17,9 +15,9 @@ fixed_first l =
     (pick (eqb (line_at l 1) (fixed_line 1)) (eqb (line_at l 2) (fixed_line 2)) false)
     false
 
-abbrev pub is_new : Found → Bool
-is_new (At i) = false
-is_new Nothing = true
+abbrev pub is_new : Option ℕ → Bool
+is_new (Some i) = false
+is_new None = true
 
 -- depth at most 16, depth and ground mark right, and no earlier line alike
 abbrev pub line_by : Grade → List ℕ → ℕ → Bool

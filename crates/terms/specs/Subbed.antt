@@ -1,6 +1,8 @@
 -- A substitution's answer, and the one number that the code holds it in: label + count * 2^16 + mark * 2^32.
-use Rattle.std.specs.Prelude.{ℕ, ◌/◌, ◌%◌, Bool, ltb}
+use Rattle.std.specs.Prelude.{ℕ, ◌/◌, ◌%◌, Bool, ltb, Result, Ok, Err}
 use Rattle.terms.specs.Base.{pick}
+use Rattle.terms.specs.declared.table.Size.{Size}
+use Rattle.terms.specs.declared.table.Size.TheVariants as Z
 
 -- a label, or why there is none
 pub data Got : Type 0 where
@@ -12,6 +14,15 @@ pub data Got : Type 0 where
 pub record Subbed : Type 0 where
   pub got : Got
   pub count : ℕ
+
+-- the same as the code names them
+abbrev pub got_of : Size → Got
+got_of Z.Deep = Deep
+got_of Z.Full = Full
+
+abbrev pub got_in : Result ℕ Size → Got
+got_in (Ok i) = Label i
+got_in (Err z) = got_of z
 
 abbrev pub subbed : Got → ℕ → Subbed
 subbed g c = record { got = g; count = c }

@@ -1,21 +1,23 @@
 -- A thread's values put for variables. Variable a stands at place o + a of the values.
-use Rattle.std.specs.Prelude.{ℕ, zero, suc, ◌+◌, Bool, false, List, get_or, leb}
+use Rattle.std.specs.Prelude.{ℕ, zero, suc, ◌+◌, Bool, false, List, get_or, leb, Result, Ok, Err}
 use Rattle.terms.specs.Base.{pick, Held, held}
 use Rattle.terms.specs.Term.{term, shape_of}
 use Rattle.terms.specs.Line.{term_at, depth_at, ground_at}
 use Rattle.terms.specs.Table.{add_to, cut_to}
-use Rattle.terms.specs.Subbed.{Got, Label, Deep, Full, Subbed, subbed, count_in, is_deep}
+use Rattle.terms.specs.Outcome.{Outcome, Added}
+use Rattle.terms.specs.Outcome as O
+use Rattle.terms.specs.Taken.{Taken, Operands}
+use Rattle.terms.specs.Taken as T
+use Rattle.terms.specs.Subbed.{Got, Label, Deep, Full, Subbed, subbed}
 use Rattle.terms.specs.declared.term.Term.{Term}
 use Rattle.terms.specs.declared.term.Shape.{Shape}
 use Rattle.terms.specs.declared.term.Shape.TheVariants.{Bare, Number, Variable, Sealed, Hashed, Applied, Joined, Unknown}
-use Rattle.terms.specs.declared.table.Added.{Added}
-use Rattle.terms.specs.declared.table.Outcome.{Outcome}
-use Rattle.terms.specs.declared.table.Outcome.TheVariants as O
+use Rattle.terms.specs.declared.table.Size.{Size}
+use Rattle.terms.specs.declared.table.Size.TheVariants as Z
 use Rattle.terms.specs.declared.subst.Plan.{Plan}
 use Rattle.terms.specs.declared.subst.Plan.TheVariants.{Keep, First, Second, Both}
-use Rattle.terms.specs.declared.subst.Taken.{Taken}
-use Rattle.terms.specs.declared.subst.Taken.TheVariants as T
-use Rattle.terms.specs.declared.subst.Operands.{Operands}
+use Rattle.terms.specs.declared.subst.Operands as P
+use Rattle.terms.specs.declared.subst.Walked.{Walked}
 
 -- what is to be done at a label: keep one, or go down the parts
 abbrev pub plan_by : Shape → Term → List ℕ → ℕ → ℕ → Plan
@@ -102,6 +104,23 @@ subst_in (suc n) l c vs o i = walk_by (plan_at l vs o i) (λ m d j. subst_in n m
 abbrev pub operands : Taken → ℕ → Operands
 operands t c = record { taken = t; count = c }
 
+-- the same as the code answers it, of operands entered among c terms: a refusal leaves the count
+abbrev pub taken_of : Size → Taken
+taken_of Z.Deep = T.Deep
+taken_of Z.Full = T.Full
+
+abbrev pub operands_in : ℕ → Result P.Operands Size → Operands
+operands_in c (Ok o) = operands (T.Labels o.x o.y) o.count
+operands_in c (Err z) = operands (taken_of z) c
+
+-- and on the way there, where the count of a refusal is that of the terms entered before it
+abbrev pub labels_of : Result (ℕ × ℕ) Size → Taken
+labels_of (Ok (i, j)) = T.Labels i j
+labels_of (Err z) = taken_of z
+
+abbrev pub walked_in : Walked → Operands
+walked_in w = operands (labels_of w.labels) w.count
+
 abbrev pub taken_by : Got → ℕ → ℕ → Operands
 taken_by (Label j) c i = operands (T.Labels i j) c
 taken_by Deep c i = operands T.Deep c
@@ -109,10 +128,6 @@ taken_by Full c i = operands T.Full c
 
 unfoldable pub second_operand : ℕ → Subbed → Operands
 second_operand i q = taken_by q.got q.count i
-
--- the same of an answer as the code holds it, where it has no label
-unfoldable pub not_taken : ℕ → Operands
-not_taken n = operands (pick (is_deep n) T.Deep T.Full) (count_in n)
 
 abbrev pub after_first : Got → ℕ → List ℕ → List ℕ → ℕ → ℕ → Held Operands
 after_first (Label i) c l vs o y = let q = subst_in 16 l c vs o y in held (second_operand i q.out) q.table

@@ -1,100 +1,80 @@
 // A term entered where it is new. One look at its shape tells how deep it is, whether it is ground and from where on it is
-// looked for; all goes in plain numbers, since a substitution enters term after term.
+// looked for.
 ghost use Rattle.std.specs.Prelude.{◌≡◌};
 ghost use Rattle.terms.specs.Base.{held};
-ghost use Rattle.terms.specs.Term.{term};
-ghost use Rattle.terms.specs.Table.{add_to};
+ghost use Rattle.terms.specs.Table.{added_in, add_to};
 ghost use Rattle.terms.specs.Subst.{entered_in};
 ghost use Rattle.terms.specs.Subbed.{subbed_in};
-ghost use Rattle.terms.specs.Entry.{outcome_in, enter_from, enter_above, enter_above_both};
+ghost use Rattle.terms.specs.Entry.{enter_from, enter_above, enter_above_both};
 
 use crate::grade::{above, above_both, leaf};
 use crate::line::{Grade, line_at, pack};
-use crate::subbed::{count_in, got_deep, got_full, got_label, has_label, is_deep, label_in};
-use crate::table::{Added, Found, Outcome, find_line, free_entries};
-use crate::term::{Shape, Term, later, shape_of};
+use crate::subbed::Subbed;
+use crate::table::{Added, Entry, Size, find_line, free_entries};
+use crate::term::{Shape, Term, shape_of};
 
-// Lists a term unless it is there.
-pub fn add(t: &mut [u64; 512], count: u16, x: Term) -> Added
-    ensures { held result t.new ≡ add_to t.old count x }
+// Lists a term unless it is there: it is new where there are more terms then.
+pub fn add(t: &mut [u64; 512], count: u16, x: Term) -> Result<Added, Size>
+    ensures { held (added_in count result) t.new ≡ add_to t.old count x }
 {
-    let q = entered(t, count, x.kind, x.a, x.b);
-    Added {
-        outcome: outcome_in(q, count),
-        count: count_in(q),
-    }
-}
-
-// What came of adding a term to a table with that many: the term is new where there are more now.
-fn outcome_in(q: u64, count: u16) -> Outcome
-    ensures { result ≡ outcome_in count (subbed_in q) }
-{
-    if has_label(q) {
-        if count_in(q) == count {
-            return Outcome::Listed(label_in(q));
-        }
-        return Outcome::New(label_in(q));
-    }
-    if is_deep(q) {
-        Outcome::Deep
+    let r = entered(t, count, x);
+    let label = r.label()?;
+    let after = r.count();
+    let entry = if after == count {
+        Entry::Listed(label)
     } else {
-        Outcome::Full
-    }
+        Entry::New(label)
+    };
+    Ok(Added {
+        entry,
+        count: after,
+    })
 }
 
 // The same as a substitution's answer.
-pub fn entered(t: &mut [u64; 512], count: u16, kind: u8, a: u16, b: u16) -> u64
-    ensures { held (subbed_in result) t.new ≡ entered_in t.old count (term kind a b) }
+pub fn entered(t: &mut [u64; 512], count: u16, x: Term) -> Subbed
+    ensures { held (subbed_in result.bits) t.new ≡ entered_in t.old count x }
 {
-    let s = shape_of(kind);
-    match s {
-        Shape::Bare => graded(t, count, kind, a, b, 0, leaf(true)),
-        Shape::Number => graded(t, count, kind, a, b, 0, leaf(true)),
-        Shape::Variable => graded(t, count, kind, a, b, 0, leaf(false)),
-        Shape::Sealed => above_one(t, count, kind, a, b, a),
-        Shape::Hashed => above_one(t, count, kind, a, b, a),
-        Shape::Applied => above_one(t, count, kind, a, b, b),
-        Shape::Joined => above_two(t, count, kind, a, b),
-        Shape::Unknown => graded(t, count, kind, a, b, 0, leaf(true)),
+    match shape_of(x.kind) {
+        Shape::Bare | Shape::Number | Shape::Unknown => graded(t, count, x, 0, leaf(true)),
+        Shape::Variable => graded(t, count, x, 0, leaf(false)),
+        Shape::Sealed | Shape::Hashed => above_one(t, count, x, x.a),
+        Shape::Applied => above_one(t, count, x, x.b),
+        Shape::Joined => above_two(t, count, x),
     }
 }
 
 // A term above one part.
-fn above_one(t: &mut [u64; 512], count: u16, kind: u8, a: u16, b: u16, part: u16) -> u64
-    ensures { held (subbed_in result) t.new ≡ enter_above part t.old count (term kind a b) }
+fn above_one(t: &mut [u64; 512], count: u16, x: Term, part: u16) -> Subbed
+    ensures { held (subbed_in result.bits) t.new ≡ enter_above part t.old count x }
 {
     let g = above(line_at(t, part));
-    graded(t, count, kind, a, b, part, g)
+    graded(t, count, x, part, g)
 }
 
 // A term above two parts.
-fn above_two(t: &mut [u64; 512], count: u16, kind: u8, a: u16, b: u16) -> u64
-    ensures { held (subbed_in result) t.new ≡ enter_above_both t.old count (term kind a b) }
+fn above_two(t: &mut [u64; 512], count: u16, x: Term) -> Subbed
+    ensures { held (subbed_in result.bits) t.new ≡ enter_above_both t.old count x }
 {
-    let g = above_both(line_at(t, a), line_at(t, b));
-    graded(t, count, kind, a, b, later(a, b), g)
+    let g = above_both(line_at(t, x.a), line_at(t, x.b));
+    graded(t, count, x, x.a.max(x.b), g)
 }
 
 // A term of which depth and ground mark are known, looked for from a label on.
-fn graded(t: &mut [u64; 512], count: u16, kind: u8, a: u16, b: u16, from: u16, g: Grade) -> u64
-    ensures { held (subbed_in result) t.new ≡ enter_from from g t.old count (term kind a b) }
+fn graded(t: &mut [u64; 512], count: u16, x: Term, from: u16, g: Grade) -> Subbed
+    ensures { held (subbed_in result.bits) t.new ≡ enter_from from g t.old count x }
 {
     if Term::DEPTH < g.depth {
-        return got_deep(count);
+        return Subbed::refused(Size::Deep, count);
     }
-    let n = pack(Term { kind, a, b }, g);
-    let f = find_line(t, from, count, n);
-    match f {
-        Found::At(i) => got_label(i, count),
-        Found::Nothing => {
-            let free = free_entries(count);
-            if free == 0 {
-                return got_full(count);
-            }
-            let i = count as usize;
-            let next = count + 1;
-            t[i] = n;
-            got_label(count, next)
-        }
+    let n = pack(x, g);
+    if let Some(label) = find_line(t, from, count, n) {
+        return Subbed::listed(label, count);
     }
+    if free_entries(count) == 0 {
+        return Subbed::refused(Size::Full, count);
+    }
+    t[count as usize] = n;
+    let next = count + 1;
+    Subbed::listed(count, next)
 }

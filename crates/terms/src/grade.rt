@@ -5,21 +5,17 @@ ghost use Rattle.terms.specs.Line.{grade};
 ghost use Rattle.terms.specs.Grade.{grade_of, above_line, above_both};
 
 use crate::line::{Grade, depth_in, ground_in, line_at};
-use crate::term::{Shape, Term, both, larger, shape_of};
+use crate::term::{Shape, Term, shape_of};
 
 pub fn grade_of(t: &[u64; 512], x: Term) -> Grade
     ensures { result ≡ grade_of t.now x }
 {
-    let s = shape_of(x.kind);
-    match s {
-        Shape::Bare => leaf(true),
-        Shape::Number => leaf(true),
+    match shape_of(x.kind) {
+        Shape::Bare | Shape::Number | Shape::Unknown => leaf(true),
         Shape::Variable => leaf(false),
-        Shape::Sealed => above(line_at(t, x.a)),
-        Shape::Hashed => above(line_at(t, x.a)),
+        Shape::Sealed | Shape::Hashed => above(line_at(t, x.a)),
         Shape::Applied => above(line_at(t, x.b)),
         Shape::Joined => above_both(line_at(t, x.a), line_at(t, x.b)),
-        Shape::Unknown => leaf(true),
     }
 }
 
@@ -33,7 +29,7 @@ pub fn above(n: u64) -> Grade
     ensures { result ≡ above_line n }
 {
     Grade {
-        depth: depth_in(n) as u16 + 1,
+        depth: u16::from(depth_in(n)) + 1,
         grounded: ground_in(n),
     }
 }
@@ -42,7 +38,7 @@ pub fn above_both(m: u64, n: u64) -> Grade
     ensures { result ≡ above_both m n }
 {
     Grade {
-        depth: larger(depth_in(m), depth_in(n)) as u16 + 1,
-        grounded: both(ground_in(m), ground_in(n)),
+        depth: u16::from(depth_in(m).max(depth_in(n))) + 1,
+        grounded: ground_in(m) && ground_in(n),
     }
 }

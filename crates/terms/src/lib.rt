@@ -4,7 +4,7 @@
 //   line    a line of the table as one exact number, with the term's depth and whether it is ground
 //   table   the lent table: fresh, find, add, cut back, free entries
 //   grade   how deep a new term would be, and whether it would be ground
-//   subbed  a substitution's answer as one number
+//   subbed  a substitution's answer
 //   entry   a term entered as such an answer
 //   subst   a thread's values put for variables, down the parts of a term
 //   sound   the soundness of a table, for every array of numbers

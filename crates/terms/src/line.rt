@@ -2,7 +2,7 @@
 // ground * 2^48 + depth * 2^40 + kind * 2^32 + a * 2^16 + b. Two lines are equal exactly when the terms are, so a
 // lookup is one comparison a line and nothing is ever taken for something else.
 ghost use Rattle.std.specs.Prelude.{◌≡◌};
-ghost use Rattle.terms.specs.Line.{Bit, Known, packed, term_in, depth_in, ground_in, line_at, term_at, depth_at, ground_at};
+ghost use Rattle.terms.specs.Line.{packed, term_in, depth_in, ground_in, line_at, term_at, depth_at, ground_at};
 
 use crate::term::Term;
 
@@ -13,21 +13,14 @@ pub struct Grade {
     pub grounded: bool,
 }
 
-// 1 for true.
-pub fn bit(b: bool) -> u64
-    ensures { Bit b result }
-{
-    if b { 1 } else { 0 }
-}
-
 pub fn pack(x: Term, g: Grade) -> u64
     ensures { result ≡ packed x g }
 {
-    let grounded = bit(g.grounded);
-    let depth = g.depth as u64;
-    let kind = x.kind as u64;
-    let a = x.a as u64;
-    let b = x.b as u64;
+    let grounded = u64::from(g.grounded);
+    let depth = u64::from(g.depth);
+    let kind = u64::from(x.kind);
+    let a = u64::from(x.a);
+    let b = u64::from(x.b);
     grounded * 281474976710656 + depth * 1099511627776 + kind * 4294967296 + a * 65536 + b
 }
 
@@ -53,21 +46,11 @@ pub fn ground_in(n: u64) -> bool
     n / 281474976710656 % 2 == 1
 }
 
-// What the type says of a table, said to the prover: 512 numbers that fit. It does nothing.
-pub fn known(t: &[u64; 512])
-    ensures { Known t.now }
-{
-    let s: &[u64] = t;
-    let x = s[0];
-}
-
 // The line at a label, 0 where there is none.
 pub fn line_at(t: &[u64; 512], label: u16) -> u64
     ensures { result ≡ line_at t.now label }
 {
-    known(t);
-    let i = label as usize;
-    if i < 512 { t[i] } else { 0 }
+    t.get(usize::from(label)).copied().unwrap_or(0)
 }
 
 // The term at a label.

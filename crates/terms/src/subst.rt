@@ -4,13 +4,13 @@
 ghost use Rattle.std.specs.Prelude.{◌≡◌, ◌+◌, get_or};
 ghost use Rattle.terms.specs.Base.{held};
 ghost use Rattle.terms.specs.Subbed.{subbed_in};
-ghost use Rattle.terms.specs.Subst.{plan_at, fits_within, with_first, with_second, with_both, not_taken, second_operand, subst_in, take_both, deep_or_full, take_operands};
+ghost use Rattle.terms.specs.Subst.{plan_at, fits_within, subst_in, second_operand, take_both, deep_or_full, take_operands, taken_of, walked_in, operands_in};
 
 use crate::entry::entered;
 use crate::line::{depth_at, ground_in, line_at, term_at, term_in};
-use crate::subbed::{count_in, got_deep, got_label, has_label, is_deep, label_in};
-use crate::table::cut;
-use crate::term::{Shape, shape_of};
+use crate::subbed::Subbed;
+use crate::table::{Size, cut};
+use crate::term::{Shape, Term, shape_of};
 
 // What is to be done at a label: keep a label, or go down its parts.
 #[derive(Drop)]
@@ -21,17 +21,18 @@ pub enum Plan {
     Both(u16, u16),
 }
 
-// Both operands of an action.
-#[derive(Drop)]
-pub enum Taken {
-    Labels(u16, u16),
-    Deep,
-    Full,
+// The labels of both operands of an action, and the count of terms with them.
+#[derive(Clone, Copy)]
+pub struct Operands {
+    pub x: u16,
+    pub y: u16,
+    pub count: u16,
 }
 
-#[derive(Drop)]
-pub struct Operands {
-    pub taken: Taken,
+// What came of walking both operands, and the terms then in the table, those entered before a refusal too.
+#[derive(Clone, Copy)]
+pub struct Walked {
+    pub labels: Result<(u16, u16), Size>,
     pub count: u16,
 }
 
@@ -39,9 +40,8 @@ pub struct Operands {
 fn value_at(values: &[u16; 192], base: u16, a: u16) -> u16
     ensures { result ≡ get_or values.now (base + a) 0 }
 {
-    let all: &[u16] = values;
-    let i = base as usize + a as usize;
-    if i < all.len() { all[i] } else { 0 }
+    let i = usize::from(base) + usize::from(a);
+    values.get(i).copied().unwrap_or(0)
 }
 
 // A ground term is its own substitution, so its parts are not walked.
@@ -53,16 +53,12 @@ pub fn plan_at(t: &[u64; 512], values: &[u16; 192], base: u16, label: u16) -> Pl
         return Plan::Keep(label);
     }
     let x = term_in(n);
-    let s = shape_of(x.kind);
-    match s {
-        Shape::Bare => Plan::Keep(label),
-        Shape::Number => Plan::Keep(label),
+    match shape_of(x.kind) {
+        Shape::Bare | Shape::Number | Shape::Unknown => Plan::Keep(label),
         Shape::Variable => Plan::Keep(value_at(values, base, x.a)),
-        Shape::Sealed => Plan::First(x.a),
-        Shape::Hashed => Plan::First(x.a),
+        Shape::Sealed | Shape::Hashed => Plan::First(x.a),
         Shape::Applied => Plan::Second(x.b),
         Shape::Joined => Plan::Both(x.a, x.b),
-        Shape::Unknown => Plan::Keep(label),
     }
 }
 
@@ -73,17 +69,12 @@ pub fn fits_within(t: &[u64; 512], values: &[u16; 192], base: u16, label: u16, r
     if room == 0 {
         return false;
     }
-    let p = plan_at(t, values, base, label);
-    match p {
+    match plan_at(t, values, base, label) {
         Plan::Keep(l) => depth_at(t, l) <= room,
         Plan::First(a) => fits_within(t, values, base, a, room - 1),
         Plan::Second(b) => fits_within(t, values, base, b, room - 1),
         Plan::Both(a, b) => {
-            if fits_within(t, values, base, a, room - 1) {
-                fits_within(t, values, base, b, room - 1)
-            } else {
-                false
-            }
+            fits_within(t, values, base, a, room - 1) && fits_within(t, values, base, b, room - 1)
         }
     }
 }
@@ -96,64 +87,51 @@ pub fn subst(
     base: u16,
     label: u16,
     left: u8,
-) -> u64
-    ensures { held (subbed_in result) t.new ≡ subst_in left t.old count values.now base label }
+) -> Subbed
+    ensures { held (subbed_in result.bits) t.new ≡ subst_in left t.old count values.now base label }
 {
     if left == 0 {
-        return got_deep(count);
+        return Subbed::refused(Size::Deep, count);
     }
-    let p = plan_at(t, values, base, label);
-    match p {
-        Plan::Keep(l) => got_label(l, count),
+    match plan_at(t, values, base, label) {
+        Plan::Keep(l) => Subbed::listed(l, count),
         Plan::First(a) => {
             let r = subst(t, count, values, base, a, left - 1);
-            with_first(t, label, r)
+            let Ok(first) = r.label() else {
+                return r;
+            };
+            let x = term_at(t, label);
+            entered(t, r.count(), Term { a: first, ..x })
         }
         Plan::Second(b) => {
             let r = subst(t, count, values, base, b, left - 1);
-            with_second(t, label, r)
+            let Ok(second) = r.label() else {
+                return r;
+            };
+            let x = term_at(t, label);
+            entered(t, r.count(), Term { b: second, ..x })
         }
         Plan::Both(a, b) => {
             let r = subst(t, count, values, base, a, left - 1);
-            if has_label(r) {
-                let q = subst(t, count_in(r), values, base, b, left - 1);
-                with_both(t, label, label_in(r), q)
-            } else {
-                r
-            }
+            let Ok(first) = r.label() else {
+                return r;
+            };
+            let q = subst(t, r.count(), values, base, b, left - 1);
+            let Ok(second) = q.label() else {
+                return q;
+            };
+            let x = term_at(t, label);
+            entered(
+                t,
+                q.count(),
+                Term {
+                    a: first,
+                    b: second,
+                    ..x
+                },
+            )
         }
     }
-}
-
-// The term at label with another first part, where that has a label.
-fn with_first(t: &mut [u64; 512], label: u16, r: u64) -> u64
-    ensures { held (subbed_in result) t.new ≡ with_first t.old label (subbed_in r) }
-{
-    if has_label(r) {
-        let x = term_at(t, label);
-        return entered(t, count_in(r), x.kind, label_in(r), x.b);
-    }
-    r
-}
-
-fn with_second(t: &mut [u64; 512], label: u16, r: u64) -> u64
-    ensures { held (subbed_in result) t.new ≡ with_second t.old label (subbed_in r) }
-{
-    if has_label(r) {
-        let x = term_at(t, label);
-        return entered(t, count_in(r), x.kind, x.a, label_in(r));
-    }
-    r
-}
-
-fn with_both(t: &mut [u64; 512], label: u16, first: u16, r: u64) -> u64
-    ensures { held (subbed_in result) t.new ≡ with_both t.old label first (subbed_in r) }
-{
-    if has_label(r) {
-        let x = term_at(t, label);
-        return entered(t, count_in(r), x.kind, first, label_in(r));
-    }
-    r
 }
 
 // Both operands of an action, each walked once. Where there is no room it is asked whether one is too deep, since 8
@@ -165,42 +143,36 @@ pub fn take_operands(
     base: u16,
     x: u16,
     y: u16,
-) -> Operands
-    ensures { held result t.new ≡ take_operands t.old count values.now base x y }
+) -> Result<Operands, Size>
+    ensures { held (operands_in count result) t.new ≡ take_operands t.old count values.now base x y }
 {
-    let r = take_both(t, count, values, base, x, y);
-    let k = r.taken;
-    match k {
-        Taken::Labels(i, j) => Operands {
-            taken: Taken::Labels(i, j),
-            count: r.count,
-        },
-        Taken::Deep => {
-            cut(t, count, r.count);
-            Operands {
-                taken: Taken::Deep,
-                count,
-            }
+    let walked = take_both(t, count, values, base, x, y);
+    match walked.labels {
+        Ok((x, y)) => Ok(Operands {
+            x,
+            y,
+            count: walked.count,
+        }),
+        Err(Size::Deep) => {
+            cut(t, count, walked.count);
+            Err(Size::Deep)
         }
-        Taken::Full => {
-            cut(t, count, r.count);
-            let taken = deep_or_full(t, values, base, x, y);
-            Operands { taken, count }
+        Err(Size::Full) => {
+            cut(t, count, walked.count);
+            Err(deep_or_full(t, values, base, x, y))
         }
     }
 }
 
 // Why both operands cannot be entered, where there is no room for both.
-fn deep_or_full(t: &[u64; 512], values: &[u16; 192], base: u16, x: u16, y: u16) -> Taken
-    ensures { result ≡ deep_or_full t.now values.now base x y }
+fn deep_or_full(t: &[u64; 512], values: &[u16; 192], base: u16, x: u16, y: u16) -> Size
+    ensures { taken_of result ≡ deep_or_full t.now values.now base x y }
 {
-    if !fits_within(t, values, base, x, 16) {
-        return Taken::Deep;
+    if fits_within(t, values, base, x, 16) && fits_within(t, values, base, y, 16) {
+        Size::Full
+    } else {
+        Size::Deep
     }
-    if !fits_within(t, values, base, y, 16) {
-        return Taken::Deep;
-    }
-    Taken::Full
 }
 
 // Both operands entered one after the other, until one cannot be.
@@ -211,45 +183,32 @@ fn take_both(
     base: u16,
     x: u16,
     y: u16,
-) -> Operands
-    ensures { held result t.new ≡ take_both t.old count values.now base x y }
+) -> Walked
+    ensures { held (walked_in result) t.new ≡ take_both t.old count values.now base x y }
 {
     let p = subst(t, count, values, base, x, 16);
-    if has_label(p) {
-        let q = subst(t, count_in(p), values, base, y, 16);
-        second_operand(label_in(p), q)
-    } else {
-        not_taken(p)
+    match p.label() {
+        Ok(first) => {
+            let q = subst(t, p.count(), values, base, y, 16);
+            second_operand(first, q)
+        }
+        Err(size) => Walked {
+            labels: Err(size),
+            count: p.count(),
+        },
     }
 }
 
-fn second_operand(first: u16, q: u64) -> Operands
-    ensures { result ≡ second_operand first (subbed_in q) }
+// Both labels, where the second operand has one too.
+fn second_operand(first: u16, q: Subbed) -> Walked
+    ensures { walked_in result ≡ second_operand first (subbed_in q.bits) }
 {
-    if has_label(q) {
-        Operands {
-            taken: Taken::Labels(first, label_in(q)),
-            count: count_in(q),
-        }
-    } else {
-        not_taken(q)
-    }
-}
-
-// An operand that has no label.
-fn not_taken(q: u64) -> Operands
-    ensures { result ≡ not_taken q }
-{
-    let count = count_in(q);
-    if is_deep(q) {
-        Operands {
-            taken: Taken::Deep,
-            count,
-        }
-    } else {
-        Operands {
-            taken: Taken::Full,
-            count,
-        }
+    let labels = match q.label() {
+        Ok(second) => Ok((first, second)),
+        Err(size) => Err(size),
+    };
+    Walked {
+        labels,
+        count: q.count(),
     }
 }

@@ -1,10 +1,11 @@
 // The term table: 512 lines that the caller lends, of which the first count hold terms and the others are zero. A
 // label is a line's place.
+// kept: the lines and a count are two parameters, since one table is lent to configurations that each have a count of it
 ghost use Rattle.std.specs.Prelude.{◌≡◌};
-ghost use Rattle.terms.specs.Table.{fixed_line, fresh_table, Used, Free, find_line, find_term, cut_to};
+ghost use Rattle.terms.specs.Table.{label_of, fixed_line, fresh_table, Used, Free, find_line, find_term, cut_to};
 
 use crate::grade::grade_of;
-use crate::line::{Grade, known, pack};
+use crate::line::{Grade, pack};
 use crate::term::{Term, after_parts};
 
 #[derive(Drop)]
@@ -13,26 +14,35 @@ pub struct Table {
     pub count: u16,
 }
 
-// Where a term stands.
-#[derive(Drop)]
-pub enum Found {
-    At(u16),
-    Nothing,
-}
-
-// What came of adding a term: it was listed before, it is new, it is deeper than 16, or the table is full.
-#[derive(Drop)]
-pub enum Outcome {
-    Listed(u16),
-    New(u16),
+// Why a term cannot be entered: it is deeper than 16, or the table is full.
+#[derive(Clone, Copy, PartialEq, Eq)]
+pub enum Size {
     Deep,
     Full,
 }
 
-// The outcome, and the count of terms after it.
-#[derive(Drop)]
+// The label of a term that was added: it was listed before, or it is new.
+#[derive(Clone, Copy, PartialEq, Eq)]
+pub enum Entry {
+    Listed(u16),
+    New(u16),
+}
+
+impl Entry {
+    // The label, old or new.
+    pub fn label(self) -> u16
+        ensures { result ≡ label_of self }
+    {
+        match self {
+            Entry::Listed(label) | Entry::New(label) => label,
+        }
+    }
+}
+
+// A term's entry, and the count of terms after it.
+#[derive(Clone, Copy)]
 pub struct Added {
-    pub outcome: Outcome,
+    pub entry: Entry,
     pub count: u16,
 }
 
@@ -75,52 +85,39 @@ pub fn fixed_line(label: u8) -> u64
 }
 
 // How many lines hold terms, for any count.
+// kept: this and free_entries carry a bound beside their value, for their callers
 pub fn used(count: u16) -> u16
     ensures { Used count result }
 {
-    if count < Table::TERMS {
-        count
-    } else {
-        Table::TERMS
-    }
+    count.min(Table::TERMS)
 }
 
 // How many terms more the table can take.
 pub fn free_entries(count: u16) -> u16
     ensures { Free count result }
 {
-    if count < Table::TERMS {
-        Table::TERMS - count
-    } else {
-        0
-    }
+    Table::TERMS.saturating_sub(count)
 }
 
 // The first line that is n, from a label on.
-pub fn find_line(t: &[u64; 512], from: u16, count: u16, n: u64) -> Found
+pub fn find_line(t: &[u64; 512], from: u16, count: u16, n: u64) -> Option<u16>
     ensures { result ≡ find_line t.now from count n }
 {
-    known(t);
-    let end = used(count) as usize;
-    let mut i = from as usize;
-    while i < end {
-        let line = t[i];
-        if line == n {
-            let label = i as u16;
-            return Found::At(label);
+    for i in from..used(count) {
+        if t[usize::from(i)] == n {
+            return Some(i);
         }
-        i += 1;
     }
-    Found::Nothing
+    None
 }
 
 // The label of a term, looked for behind its parts.
-pub fn find(t: &[u64; 512], count: u16, x: Term) -> Found
+pub fn find(t: &[u64; 512], count: u16, x: Term) -> Option<u16>
     ensures { result ≡ find_term t.now count x }
 {
     let g = grade_of(t, x);
     if Term::DEPTH < g.depth {
-        return Found::Nothing;
+        return None;
     }
     find_line(t, after_parts(x), count, pack(x, g))
 }
@@ -129,10 +126,7 @@ pub fn find(t: &[u64; 512], count: u16, x: Term) -> Found
 pub fn cut(t: &mut [u64; 512], earlier: u16, count: u16)
     ensures { t.new ≡ cut_to t.old earlier count }
 {
-    let end = used(count) as usize;
-    let mut i = earlier as usize;
-    while i < end {
-        t[i] = 0;
-        i += 1;
+    for i in earlier..used(count) {
+        t[usize::from(i)] = 0;
     }
 }

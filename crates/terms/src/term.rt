@@ -1,9 +1,9 @@
 // A term as one line of the table: its kind and its two fields. What the fields of a kind are, parts, numbers or
 // unused, is decided here and nowhere else.
 ghost use Rattle.std.specs.Prelude.{◌≡◌};
-ghost use Rattle.terms.specs.Base.{also, larger_of};
 ghost use Rattle.terms.specs.Term.{shape_of, in_limits, parts_below, after_parts};
 
+// kept: a kind is a number, since any line of any table is read, and sound judges it
 #[derive(Clone, Copy)]
 pub struct Term {
     pub kind: u8,
@@ -65,32 +65,16 @@ pub fn shape_of(kind: u8) -> Shape
     }
 }
 
-// Both tests hold.
-pub fn both(p: bool, q: bool) -> bool
-    ensures { result ≡ also p q }
-{
-    if p { q } else { false }
-}
-
-pub fn larger(m: u8, n: u8) -> u8
-    ensures { result ≡ larger_of m n }
-{
-    if m < n { n } else { m }
-}
-
 // The kind is known, unused fields are 0, a variable and a function are within their limits.
 pub fn in_limits(x: Term) -> bool
     ensures { result ≡ in_limits x }
 {
-    let s = shape_of(x.kind);
-    match s {
-        Shape::Bare => both(x.a == 0, x.b == 0),
-        Shape::Number => x.b == 0,
-        Shape::Variable => both(x.a < Term::VARIABLES, x.b == 0),
-        Shape::Sealed => true,
-        Shape::Hashed => x.b == 0,
+    match shape_of(x.kind) {
+        Shape::Bare => x.a == 0 && x.b == 0,
+        Shape::Number | Shape::Hashed => x.b == 0,
+        Shape::Variable => x.a < Term::VARIABLES && x.b == 0,
+        Shape::Sealed | Shape::Joined => true,
         Shape::Applied => x.a < Term::FUNCTIONS,
-        Shape::Joined => true,
         Shape::Unknown => false,
     }
 }
@@ -99,16 +83,11 @@ pub fn in_limits(x: Term) -> bool
 pub fn parts_below(x: Term, label: u16) -> bool
     ensures { result ≡ parts_below x label }
 {
-    let s = shape_of(x.kind);
-    match s {
-        Shape::Bare => true,
-        Shape::Number => true,
-        Shape::Variable => true,
-        Shape::Sealed => x.a < label,
-        Shape::Hashed => x.a < label,
+    match shape_of(x.kind) {
+        Shape::Bare | Shape::Number | Shape::Variable | Shape::Unknown => true,
+        Shape::Sealed | Shape::Hashed => x.a < label,
         Shape::Applied => x.b < label,
-        Shape::Joined => both(x.a < label, x.b < label),
-        Shape::Unknown => true,
+        Shape::Joined => x.a < label && x.b < label,
     }
 }
 
@@ -116,21 +95,10 @@ pub fn parts_below(x: Term, label: u16) -> bool
 pub fn after_parts(x: Term) -> u16
     ensures { result ≡ after_parts x }
 {
-    let s = shape_of(x.kind);
-    match s {
-        Shape::Bare => 0,
-        Shape::Number => 0,
-        Shape::Variable => 0,
-        Shape::Sealed => x.a,
-        Shape::Hashed => x.a,
+    match shape_of(x.kind) {
+        Shape::Bare | Shape::Number | Shape::Variable | Shape::Unknown => 0,
+        Shape::Sealed | Shape::Hashed => x.a,
         Shape::Applied => x.b,
-        Shape::Joined => later(x.a, x.b),
-        Shape::Unknown => 0,
+        Shape::Joined => x.a.max(x.b),
     }
-}
-
-pub fn later(a: u16, b: u16) -> u16
-    ensures { result ≡ larger_of a b }
-{
-    if a < b { b } else { a }
 }

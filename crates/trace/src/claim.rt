@@ -13,8 +13,8 @@ pub fn judge(records: &[u16], n: u16, c: Claim) -> u16
     ensures { result ≡ first_break_on records.now n c }
 {
     if Event::ROOM < n {
-        return first_break(records, n, c);
+        first_break(records, n, c)
+    } else {
+        broken(judge_table(records, start(n, c)))
     }
-    let k = judge_table(records, start(n, c));
-    broken(k)
 }

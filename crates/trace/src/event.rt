@@ -8,7 +8,8 @@ use rules::event::{Record, number_at};
 
 // op (19 jump, 20 launch, 21 reset, 22 hand-over), the mover's serial, loc, x, y, result, the program of a jump, the
 // machine, the other thread, the number of endings, and their programs: the numbers of a record, each under its name.
-#[derive(Clone, Copy)]
+// kept: numbers, as in the record that it is taken from, which may hold any
+#[derive(Clone, Copy, Default)]
 pub struct Event {
     pub op: u16,
     pub serial: u16,
@@ -31,20 +32,7 @@ impl Event {
     pub fn none() -> Event
         ensures { result ≡ no_event }
     {
-        Event {
-            op: 0,
-            serial: 0,
-            loc: 0,
-            x: 0,
-            y: 0,
-            result: 0,
-            program: 0,
-            machine: 0,
-            thread: 0,
-            endings: 0,
-            first: 0,
-            second: 0,
-        }
+        Event::default()
     }
 }
 
@@ -69,22 +57,22 @@ pub fn event_from(records: &[u16], i: u16) -> Event
 }
 
 // The event has an accept of a program.
-pub fn accepts(e: Event, program: u8) -> bool
-    ensures { result ≡ accepts_in e program }
+pub fn accepts(e: &Event, program: u8) -> bool
+    ensures { result ≡ accepts_in e.now program }
 {
     accepts_by(e.endings, e.first, e.second, program)
 }
 
 // It made a thread for the claim.
-pub fn makes(e: Event, c: Claim) -> bool
-    ensures { result ≡ makes_in e c }
+pub fn makes(e: &Event, c: Claim) -> bool
+    ensures { result ≡ makes_in e.now c }
 {
     makes_by(e.op, e.machine, c)
 }
 
 // How far along the path a thread is after it.
-pub fn follow(e: Event, serial: u16, c: Claim, at: u8) -> u8
-    ensures { result ≡ follow_in e serial c at }
+pub fn follow(e: &Event, serial: u16, c: Claim, at: u8) -> u8
+    ensures { result ≡ follow_in e.now serial c at }
 {
     follow_by(e.op, e.serial, e.program, serial, c, at)
 }

@@ -3,11 +3,11 @@ ghost use Rattle.std.specs.Prelude.{◌≡◌};
 ghost use Rattle.trace.specs.Judge.{judge_step, followed};
 
 use crate::event::{Event, accepts, follow};
-use crate::table::event_at;
 use model::records::Claim;
 
 // How many events are to be judged, the thread's serial, how far along the path it is, and whether an accept of the
 // claim's program was met: what comes after that isn't earlier.
+// kept: closed is a state of its own, as judge_step of specs has it; at holds in both
 #[derive(Clone, Copy)]
 pub struct Judge {
     pub claim: Claim,
@@ -17,29 +17,18 @@ pub struct Judge {
     pub closed: bool,
 }
 
-pub fn judge_step(j: Judge, e: Event) -> Judge
-    ensures { result ≡ judge_step j e }
+pub fn judge_step(j: Judge, e: &Event) -> Judge
+    ensures { result ≡ judge_step j e.now }
 {
     if j.closed {
-        return j;
-    }
-    let claim = j.claim;
-    if accepts(e, claim.program) {
-        return Judge {
-            claim: claim,
-            upto: j.upto,
-            serial: j.serial,
-            at: j.at,
-            closed: true,
-        };
-    }
-    let at = follow(e, j.serial, claim, j.at);
-    Judge {
-        claim: claim,
-        upto: j.upto,
-        serial: j.serial,
-        at: at,
-        closed: false,
+        j
+    } else if accepts(e, j.claim.program) {
+        Judge { closed: true, ..j }
+    } else {
+        Judge {
+            at: follow(e, j.serial, j.claim, j.at),
+            ..j
+        }
     }
 }
 
@@ -47,11 +36,5 @@ pub fn judge_step(j: Judge, e: Event) -> Judge
 pub fn judge_all(es: &[Event], j0: Judge) -> Judge
     ensures { result ≡ followed es.now j0 }
 {
-    let mut j = j0;
-    let mut i = 0;
-    while i < j0.upto {
-        j = judge_step(j, event_at(es, i));
-        i += 1;
-    }
-    j
+    es.iter().take(j0.upto).fold(j0, judge_step)
 }

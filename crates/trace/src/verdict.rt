@@ -11,6 +11,7 @@ use state::control::one_more;
 
 // What is known after the events seen so far: an accept of the claim's program was met, some thread made for the claim
 // has walked the path.
+// kept: two facts that hold or not by themselves, as verdict_step of specs has them
 #[derive(Clone, Copy)]
 pub struct Verdict {
     pub claim: Claim,
@@ -25,7 +26,7 @@ pub fn start(n: u16, c: Claim) -> Verdict
 {
     Verdict {
         claim: c,
-        upto: n as usize,
+        upto: usize::from(n),
         seen: 0,
         accepted: false,
         walked: false,
@@ -33,72 +34,56 @@ pub fn start(n: u16, c: Claim) -> Verdict
 }
 
 // The event made a thread that is to be followed: no accept is met yet, and no thread has walked the path.
-fn wanted(k: Verdict, e: Event) -> bool
-    ensures { result ≡ wants k e }
+fn wanted(k: &Verdict, e: &Event) -> bool
+    ensures { result ≡ wants k.now e.now }
 {
-    if k.accepted {
-        return false;
-    }
-    if k.walked {
-        return false;
-    }
-    makes(e, k.claim)
+    !k.accepted && !k.walked && makes(e, k.claim)
 }
 
-pub fn follower(k: Verdict, e: Event) -> Judge
-    ensures { result ≡ follower_of k e }
+pub fn follower(k: &Verdict, e: &Event) -> Judge
+    ensures { result ≡ follower_of k.now e.now }
 {
-    let claim = k.claim;
     if wanted(k, e) {
-        return Judge {
-            claim: claim,
+        Judge {
+            claim: k.claim,
             upto: k.upto,
             serial: e.thread,
             at: 0,
             closed: false,
-        };
-    }
-    Judge {
-        claim: claim,
-        upto: 0,
-        serial: 0,
-        at: 0,
-        closed: true,
+        }
+    } else {
+        Judge {
+            claim: k.claim,
+            upto: 0,
+            serial: 0,
+            at: 0,
+            closed: true,
+        }
     }
 }
 
 // The event is seen; j has followed the thread that it made.
-pub fn verdict_step(k: Verdict, e: Event, j: Judge) -> Verdict
-    ensures { result ≡ verdict_step k e j }
+pub fn verdict_step(k: Verdict, e: &Event, j: Judge) -> Verdict
+    ensures { result ≡ verdict_step k e.now j }
 {
     if k.accepted {
-        return k;
-    }
-    let claim = k.claim;
-    if accepts(e, claim.program) {
-        return Verdict {
-            claim: claim,
-            upto: k.upto,
-            seen: k.seen,
+        k
+    } else if accepts(e, k.claim.program) {
+        Verdict {
             accepted: true,
-            walked: k.walked,
-        };
-    }
-    if wanted(k, e) {
-        return Verdict {
-            claim: claim,
-            upto: k.upto,
+            ..k
+        }
+    } else if wanted(&k, e) {
+        Verdict {
             seen: one_more(k.seen),
-            accepted: false,
-            walked: j.at == claim.length,
-        };
-    }
-    Verdict {
-        claim: claim,
-        upto: k.upto,
-        seen: one_more(k.seen),
-        accepted: false,
-        walked: k.walked,
+            walked: j.at == k.claim.length,
+            ..k
+        }
+    } else {
+        Verdict {
+            seen: one_more(k.seen),
+            ..k
+        }
     }
 }
 
@@ -107,12 +92,9 @@ pub fn judge_claim(es: &[Event], k0: Verdict) -> Verdict
     ensures { result ≡ judged es.now k0 }
 {
     let mut k = k0;
-    let mut i = 0;
-    while i < k0.upto {
+    for i in 0..k0.upto {
         let e = event_at(es, i);
-        let j = judge_all(es, follower(k, e));
-        k = verdict_step(k, e, j);
-        i += 1;
+        k = verdict_step(k, &e, judge_all(es, follower(&k, &e)));
     }
     k
 }
@@ -122,11 +104,8 @@ pub fn judge_table(records: &[u16], k: Verdict) -> Verdict
     ensures { result ≡ judged (standing records.now) k }
 {
     let mut es = blank();
-    let mut i = 0;
-    while i < Event::ROOM {
-        let e = event_from(records, i);
-        put_event(&mut es, i as usize, e);
-        i += 1;
+    for i in 0..Event::ROOM {
+        put_event(&mut es, usize::from(i), event_from(records, i));
     }
     judge_claim(&es, k)
 }
@@ -135,11 +114,9 @@ pub fn judge_table(records: &[u16], k: Verdict) -> Verdict
 pub fn broken(k: Verdict) -> u16
     ensures { result ≡ break_in k }
 {
-    if !k.accepted {
-        return 0;
+    if k.accepted && !k.walked {
+        one_more(k.seen)
+    } else {
+        0
     }
-    if k.walked {
-        return 0;
-    }
-    one_more(k.seen)
 }

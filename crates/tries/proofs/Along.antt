@@ -19,21 +19,20 @@ use Rattle.state.proofs.Codes.{one_iff}
 use Rattle.state.proofs.Turned.{early_seven}
 use Rattle.rules.specs.Work.{work_on}
 use Rattle.rules.specs.Happened.{happened_on}
-use Rattle.rules.specs.Made.{control_after}
+use Rattle.rules.specs.Made.{control_after, layout_of}
 use Rattle.rules.specs.Step.{stepped, refused_step, go_worked, go_on, step_on}
 use Rattle.rules.specs.declared.event.Happening.{Happening}
-use Rattle.rules.specs.declared.inner.Reply.TheVariants as R
-use Rattle.rules.specs.declared.inner.Stepped.{Stepped}
+use Rattle.rules.specs.Reply as R
+use Rattle.rules.specs.Reply.{Stepped}
 use Rattle.rules.specs.declared.work.Labels.{Labels}
-use Rattle.rules.specs.declared.work.Worked.{Worked}
-use Rattle.rules.specs.declared.work.Worked.TheVariants as W
+use Rattle.rules.specs.Worked.{Worked}
+use Rattle.rules.specs.Worked as W
 use Rattle.rules.proofs.Back.{StepKept, refused, permitted, step_kept}
 use Rattle.machine.specs.Claim.{breaks_claim}
 use Rattle.walk.specs.Machine.{Outcome}
 use Rattle.walk.specs.Machine as O
 use Rattle.walk.specs.Place.{at, landed, went_on, unbroken}
 use Rattle.walk.proofs.Fit.{both_true}
-use Rattle.law.specs.Rules.{layout_of}
 use Rattle.law.specs.Machines.{LabelsConf, conf, tried_labels}
 use Rattle.tries.specs.Labels.{judge_of, try_code, labels}
 use Rattle.tries.proofs.Codes.{code_low}

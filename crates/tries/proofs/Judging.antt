@@ -13,7 +13,7 @@ use Rattle.rules.specs.Happened.{happened_on}
 use Rattle.rules.specs.declared.event.Happening.{Happening}
 use Rattle.rules.specs.declared.work.Labels.{Labels}
 use Rattle.audit.specs.Sound.{SoundModel}
-use Rattle.law.specs.Rules.{layout_of}
+use Rattle.rules.specs.Made.{layout_of}
 use Rattle.machine.specs.Claim.{breaks_claim}
 use Rattle.machine.specs.Judge.{breaks_on, broken_by}
 use Rattle.machine.specs.Recorded.{is_real, Written, HoldsFrom, none, more, Holds}

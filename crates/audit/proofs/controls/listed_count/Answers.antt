@@ -1,27 +1,18 @@
-use Prim.Native.Nat.{◌+◌}
-use mathlib.Core.Path.{◌≡◌}
-use native.Mathlib.Omega.{arith}
-use lib.ListN.{length, take, drop}
-use borrow.Author.Rules.{rules}
-use Rattle.state.specs.FrameSound.{listed_on}
-use Rattle.audit.proofs.Laws.{listed_more, listed_end, counted_more, counted_end}
+-- `audit::controls::listed_count` meets its contract: a count of what the filter keeps, of the listed ones.
+use Rattle.std.proofs.Common.{rules, ◌∙◌, take}
+use Rattle.std.proofs.lemmas.Iterator.{YieldsList-from_slice, YieldsList-from_take}
+use Rattle.std.proofs.lemmas.Iterator.Consumers.{YieldsList-at, YieldsList-from_filter, count_from_yields_List}
+use lib.Dec.{eqb}
+use borrow.Author.Tests.{tests}
+use Rattle.model.specs.Records.{thread_in}
+use Rattle.audit.proofs.Laws.{listed_filtered}
 use Rattle.audit.proofs.controls.listed_count.Goals as goal
-
-pub loop-i-init : goal.loop-i-init
-loop-i-init c = record { is = omega arith; small = omega arith }
-
-pub overflow_add-n : goal.overflow_add-n
-overflow_add-n c = omega (arith, c.bit.ensures.small, c.loop-i.invariant.small, c.loop-i-test.true)
-
-pub loop-i-preserved : goal.loop-i-preserved
-loop-i-preserved c =
-    let long : length c.args.threads ≡ 8 = search rules in
-    counted_more c.loop-i.invariant _ (listed_on c.args.k (drop (c.loop-i.i + 1) (take c.args.listed c.args.threads)))
-    (rw (c.bit.ensures.is, c.listed_there.ensures)
-    (listed_more c.args.k c.args.listed c.args.threads c.loop-i.i (omega (arith, long, c.loop-i-test.true))))
-    c.bit.ensures.small
 
 pub returns : goal.returns
 returns c =
-    let long : length c.args.threads ≡ 8 = search rules in
-    counted_end c.loop-i.invariant (listed_end c.args.k c.args.listed c.args.threads c.loop-i.i (omega (arith, long, c.loop-i-test.false)))
+    let m = c.args.m.now in
+    count_from_yields_List c.filter.result c.count.result c.count.ensures.ran
+    (YieldsList-from_filter _ (λ n. eqb (thread_in n).machine c.args.k)
+    (YieldsList-at c.filter.ensures.source (YieldsList-from_take m.thread_count (YieldsList-from_slice m.threads cc) (cc)))
+    c.filter.ensures.closure (λ x r q k. search (rules, tests)))
+    ∙ listed_filtered c.args.k (take m.thread_count m.threads)

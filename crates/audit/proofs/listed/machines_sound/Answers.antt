@@ -1,37 +1,16 @@
-use borrow.Author.Tests.{lt-leb, le-leb}
-use Rattle.audit.specs.Listed.{machines_sound}
-use Rattle.terms.proofs.Each.{all_more, all_end}
+-- `audit::listed::machines_sound` meets its contract: `all` over the places of the array is the test on each of them.
+use Rattle.std.proofs.Common.{rules, ◌≡◌, length}
+use lib.Dec.{ltb}
+use borrow.Author.Tests.{tests}
+use Rattle.terms.proofs.Chains.{all_places}
+use Rattle.audit.specs.Listed.{machines_sound, machine_sound}
 use Rattle.audit.proofs.listed.machines_sound.Goals as goal
 
-pub returns-then-count-lt1 : goal.returns-then-count-lt1
+pub returns-then-contains : goal.returns-then-contains
 unfolding machines_sound
-returns-then-count-lt1 c = rw (lt-leb _ _ c.if-count-lt1.true)
-
-pub returns-then-count-gt-MACHINES : goal.returns-then-count-gt-MACHINES
-unfolding machines_sound
-returns-then-count-gt-MACHINES c = rw (le-leb _ _ c.if-count-lt1.false, lt-leb _ _ c.if-count-gt-MACHINES.true)
-
-pub loop-i-init : goal.loop-i-init
-unfolding machines_sound
-loop-i-init c = rw (le-leb _ _ c.if-count-lt1.false, le-leb _ _ c.if-count-gt-MACHINES.false)
-
-pub returns-then-not-machine_sound : goal.returns-then-not-machine_sound
-returns-then-not-machine_sound c =
-    rw (
-      c.loop-i.invariant,
-      all_more _ c.loop-i.i _ c.loop-i-test.true,
-      ← c.machine_sound.ensures,
-      c.if-not-machine_sound.true,
-    )
-
-pub loop-i-preserved : goal.loop-i-preserved
-loop-i-preserved c =
-    rw (
-      c.loop-i.invariant,
-      all_more _ c.loop-i.i _ c.loop-i-test.true,
-      ← c.machine_sound.ensures,
-      c.if-not-machine_sound.false,
-    )
-
-pub returns : goal.returns
-returns c = rw (c.loop-i.invariant, all_end _ c.loop-i.i _ c.loop-i-test.false)
+returns-then-contains c =
+    let m = c.args.m.now in
+    let long : length m.machines ≡ 4 = search rules in
+    let each : c.all.result ≡ _ = all_places (λ i n. machine_sound n (ltb i m.machine_count) m.programs) m.machines 4 0
+    c.all.ensures.ran (cc) (cc) long (λ x b q k. search (rules, tests)) in
+    search (rules, tests)

@@ -1,33 +1,17 @@
-use borrow.Author.Tests.{lt-leb, le-leb}
-use Rattle.audit.specs.Listed.{threads_sound}
-use Rattle.terms.proofs.Each.{all_more, all_end}
+-- `audit::listed::threads_sound` meets its contract: `all` over the places of the array is the test on each of them.
+use Rattle.std.proofs.Common.{rules, ◌≡◌, length}
+use lib.Dec.{ltb}
+use borrow.Author.Tests.{tests}
+use Rattle.terms.proofs.Chains.{all_places}
+use Rattle.audit.specs.Listed.{threads_sound, thread_sound}
 use Rattle.audit.proofs.listed.threads_sound.Goals as goal
 
-pub returns-then-count-gt-THREADS : goal.returns-then-count-gt-THREADS
+pub returns-then-m-le-THREADS : goal.returns-then-m-le-THREADS
 unfolding threads_sound
-returns-then-count-gt-THREADS c = rw (lt-leb _ _ c.if-count-gt-THREADS.true)
-
-pub loop-i-init : goal.loop-i-init
-unfolding threads_sound
-loop-i-init c = rw (le-leb _ _ c.if-count-gt-THREADS.false)
-
-pub returns-then-not-thread_sound : goal.returns-then-not-thread_sound
-returns-then-not-thread_sound c =
-    rw (
-      c.loop-i.invariant,
-      all_more _ c.loop-i.i _ c.loop-i-test.true,
-      ← c.thread_sound.ensures,
-      c.if-not-thread_sound.true,
-    )
-
-pub loop-i-preserved : goal.loop-i-preserved
-loop-i-preserved c =
-    rw (
-      c.loop-i.invariant,
-      all_more _ c.loop-i.i _ c.loop-i-test.true,
-      ← c.thread_sound.ensures,
-      c.if-not-thread_sound.false,
-    )
-
-pub returns : goal.returns
-returns c = rw (c.loop-i.invariant, all_end _ c.loop-i.i _ c.loop-i-test.false)
+returns-then-m-le-THREADS c =
+    let m = c.args.m.now in
+    let long : length m.threads ≡ 8 = search rules in
+    let each : c.all.result ≡ _ =
+    all_places (λ i n. thread_sound n (ltb i m.thread_count) m.machine_count m.programs) m.threads 8 0
+    c.all.ensures.ran (cc) (cc) long (λ x b q k. search (rules, tests)) in
+    search (rules, tests)

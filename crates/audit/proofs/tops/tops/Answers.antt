@@ -1,4 +1,5 @@
-use mathlib.Core.Path.{refl}
+-- `audit::tops::tops` meets its contract: one turn of the loop.
+use Rattle.std.proofs.Common.{refl}
 use Rattle.audit.specs.Tops.{tops_of}
 use Rattle.audit.proofs.Laws.{tops_more, tops_end}
 use Rattle.audit.proofs.tops.tops.Goals as goal
@@ -12,8 +13,7 @@ loop-i-preserved c =
     rw (
       c.loop-i.invariant,
       tops_more _ c.loop-i.i _ _ c.loop-i-test.true,
-      ← c.line_at.ensures,
-      ← c.term_in-x.ensures,
+      ← c.term_in.ensures,
       ← c.top_of.ensures,
     )
 

@@ -1,47 +1,52 @@
--- `lines::codes::code_in` meets its contract: the letter, then the one field; a code up to 65,535 fits.
-use Prim.Native.Nat.{◌%◌, ◌≤◌}
-use mathlib.Core.Path.{◌≡◌}
-use native.Mathlib.Omega.{arith}
+-- `lines::codes::code_in` meets its contract: the letter, then the one field, which ends the line; a code fits.
+use Prim.Native.Nat.{◌≤◌}
+use Rattle.std.proofs.Common.{rules}
 use Rattle.lines.specs.Codes.{code_in}
-use Rattle.lines.proofs.Laws.{field_le}
+use Rattle.lines.proofs.Laws.{read_le}
+use Rattle.lines.proofs.Lines.{line_err}
 use Rattle.lines.proofs.codes.code_in.Goals as goal
 
 pub returns-then-not-opens_with : goal.returns-then-not-opens_with
 unfolding code_in
 returns-then-not-opens_with c = rw (← c.opens_with.ensures, c.if-not-opens_with.true)
 
-pub returns-in-Last : goal.returns-in-Last
+pub returns-in_err-field : goal.returns-in_err-field
 unfolding code_in
-returns-in-Last c =
-    let h : c.in-Last.v ≤ 65535 = rw (← c.read_field-f.ensures, c.in-Last.is) at (field_le c.rest_of.result.now 65535) in
-    let q : c.in-Last.v % 65536 ≡ c.in-Last.v = omega arith in
+returns-in_err-field c =
     rw (
+      line_err c.from_residual.result c.from_residual.ensures.0,
       ← c.opens_with.ensures,
       c.if-not-opens_with.false,
       ← c.rest_of.ensures,
-      ← c.read_field-f.ensures,
-      c.in-Last.is,
-      q,
+      ← c.read_field.ensures,
+      c.in_err-field.ensures.ok_part,
     )
 
-pub returns-in-More : goal.returns-in-More
+pub overflow_cast-result : goal.overflow_cast-result
+overflow_cast-result c =
+    let h : c.in_ok-field.field.number ≤ 65535 = read_le c.in_ok-field.field _ 65535 (rw c.in_ok-field.ensures.ok_part at c.read_field.ensures) in
+    search (rules, h)
+
+pub returns-in-None : goal.returns-in-None
 unfolding code_in
-returns-in-More c =
+returns-in-None c =
     rw (
       ← c.opens_with.ensures,
       c.if-not-opens_with.false,
       ← c.rest_of.ensures,
-      ← c.read_field-f.ensures,
-      c.in-More.is,
+      ← c.read_field.ensures,
+      c.in_ok-field.ensures.ok_part,
+      c.in-None.is,
     )
 
-pub returns-in-Bad : goal.returns-in-Bad
+pub returns-in-Some : goal.returns-in-Some
 unfolding code_in
-returns-in-Bad c =
+returns-in-Some c =
     rw (
       ← c.opens_with.ensures,
       c.if-not-opens_with.false,
       ← c.rest_of.ensures,
-      ← c.read_field-f.ensures,
-      c.in-Bad.is,
+      ← c.read_field.ensures,
+      c.in_ok-field.ensures.ok_part,
+      c.in-Some.is,
     )

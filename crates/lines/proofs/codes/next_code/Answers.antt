@@ -1,36 +1,57 @@
--- `lines::codes::next_code` meets its contract: nothing left, a line, or no LF.
+-- `lines::codes::next_code` meets its contract: nothing left, no LF, or a line.
 use Prim.Native.Nat.{◌+◌, ◌≤◌}
 use native.Mathlib.Omega.{arith}
 use lib.ListN.{length}
-use borrow.Author.Tests.{eq-eqb, ne_eqb}
 use Rattle.lines.specs.Line.{width_of}
 use Rattle.lines.specs.Codes.{next_code}
-use Rattle.lines.proofs.Lines.{width_le}
+use Rattle.lines.proofs.Lines.{width_le, code_err}
 use Rattle.lines.proofs.codes.next_code.Goals as goal
 
-pub returns-then-rest-eq0 : goal.returns-then-rest-eq0
+pub returns-then-is_empty : goal.returns-then-is_empty
 unfolding next_code
-returns-then-rest-eq0 c = rw (eq-eqb _ _ c.if-rest-eq0.true)
+returns-then-is_empty c = rw (← c.is_empty.ensures, c.if-is_empty.true)
 
-pub overflow_add-next : goal.overflow_add-next
-unfolding width_of
-overflow_add-next c =
-    let h : c.in-Line.n + 1 ≤ length c.args.rest.now =
-    rw (← c.cut_line-c.ensures, c.in-Line.is) at (width_le c.args.rest.now) in
-    omega arith
-
-pub returns-in-Line : goal.returns-in-Line
+pub returns-in_err-n : goal.returns-in_err-n
 unfolding next_code
-returns-in-Line c =
+returns-in_err-n c =
     rw (
-      ne_eqb _ _ c.if-rest-eq0.false,
-      ← c.cut_line-c.ensures,
-      c.in-Line.is,
-      ← c.front_of.ensures,
-      ← c.code_in.ensures,
+      code_err c.from_residual.result c.from_residual.ensures.0,
+      ← c.is_empty.ensures,
+      c.if-is_empty.false,
+      ← c.cut_line.ensures,
+      c.in_err-n.ensures.ok_part,
     )
 
-pub returns-in-Open : goal.returns-in-Open
+pub overflow_add-n : goal.overflow_add-n
+unfolding width_of
+overflow_add-n c =
+    let h : c.in_ok-n.n + 1 ≤ length c.args.rest.now =
+    rw (← c.cut_line.ensures, c.in_ok-n.ensures.ok_part) at (width_le c.args.rest.now) in
+    omega arith
+
+pub returns-in_err-code : goal.returns-in_err-code
 unfolding next_code
-returns-in-Open c =
-    rw (ne_eqb _ _ c.if-rest-eq0.false, ← c.cut_line-c.ensures, c.in-Open.is)
+returns-in_err-code c =
+    rw (
+      code_err c.from_residual-in_err-code.result c.from_residual-in_err-code.ensures.0,
+      ← c.is_empty.ensures,
+      c.if-is_empty.false,
+      ← c.cut_line.ensures,
+      c.in_ok-n.ensures.ok_part,
+      ← c.front_of.ensures,
+      ← c.code_in.ensures,
+      c.in_err-code.was,
+    )
+
+pub returns : goal.returns
+unfolding next_code
+returns c =
+    rw (
+      ← c.is_empty.ensures,
+      c.if-is_empty.false,
+      ← c.cut_line.ensures,
+      c.in_ok-n.ensures.ok_part,
+      ← c.front_of.ensures,
+      ← c.code_in.ensures,
+      c.in_ok-code.was,
+    )

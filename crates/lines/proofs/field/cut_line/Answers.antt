@@ -1,19 +1,14 @@
-use mathlib.Core.Path.{sym, ◌∙◌}
-use native.Mathlib.Omega.{arith}
-use borrow.Author.Rules.{rules}
-use Rattle.lines.proofs.Laws.{cut_hit, cut_miss, cut_end}
+-- `lines::field::cut_line` meets its contract: `position` gives the definition.
+use mathlib.Core.Path.{◌∙◌}
+use lib.Dec.{eqb}
+use borrow.Author.Tests.{tests}
+use Rattle.std.proofs.Common.{rules}
+use Rattle.std.proofs.lemmas.Iterator.{YieldsList-from_slice}
+use Rattle.std.proofs.lemmas.Iterator.Search.{position_from_yields_List}
+use Rattle.lines.proofs.Laws.{position_cut}
 use Rattle.lines.proofs.field.cut_line.Goals as goal
 
-pub loop-i-init : goal.loop-i-init
-loop-i-init c = (omega arith, omega arith)
-
-pub returns-then-s-i-eq10 : goal.returns-then-s-i-eq10
-returns-then-s-i-eq10 c =
-    sym (cut_hit _ c.loop-i.i c.loop-i.invariant.0 c.loop-i-test.true c.if-s-i-eq10.true)
-
-pub loop-i-preserved : goal.loop-i-preserved
-loop-i-preserved c =
-    (c.loop-i.invariant.0 ∙ cut_miss _ c.loop-i.i c.loop-i-test.true c.if-s-i-eq10.false, search rules)
-
 pub returns : goal.returns
-returns c = sym (cut_end _ c.loop-i.i c.loop-i.invariant.0 c.loop-i-test.false)
+returns c =
+    position_from_yields_List (λ b. eqb b 10) _ _ c.position.result c.position.ensures.ran (YieldsList-from_slice c.args.s.now cc) (λ x b q k. search (rules, tests))
+    ∙ position_cut c.args.s.now

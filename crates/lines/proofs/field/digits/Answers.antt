@@ -1,22 +1,16 @@
-use mathlib.Core.Path.{sym, ◌∙◌}
-use native.Mathlib.Omega.{arith}
-use borrow.Author.Rules.{rules}
-use Rattle.lines.specs.Field.{is_digit}
-use Rattle.lines.proofs.Laws.{span_more, span_stop, span_end}
+-- `lines::field::digits` meets its contract: `take_while` passes what the definition counts.
+use mathlib.Core.Path.{◌∙◌}
+use borrow.Author.Tests.{tests}
+use Rattle.std.proofs.Common.{rules}
+use Rattle.std.specs.Char.{is_ascii_digit}
+use Rattle.std.proofs.lemmas.Iterator.{YieldsList-from_slice}
+use Rattle.std.proofs.lemmas.Iterator.Consumers.{count_from_yields_List}
+use Rattle.std.proofs.lemmas.Iterator.Search.{YieldsList-from_take_while}
+use Rattle.lines.proofs.Laws.{digits_span}
 use Rattle.lines.proofs.field.digits.Goals as goal
 
-pub loop-i-init : goal.loop-i-init
-loop-i-init c = (omega arith, omega arith)
-
-pub loop-i-preserved : goal.loop-i-preserved
-loop-i-preserved c = (
-  c.loop-i.invariant.0 ∙ span_more is_digit _ c.loop-i.i c.loop-i-test.true (sym c.is_digit.ensures ∙ c.if-is_digit.true),
-  search rules,
-)
-
-pub returns-else-is_digit : goal.returns-else-is_digit
-returns-else-is_digit c =
-    sym (c.loop-i.invariant.0 ∙ span_stop is_digit _ c.loop-i.i c.loop-i-test.true (sym c.is_digit.ensures ∙ c.if-is_digit.false))
-
 pub returns : goal.returns
-returns c = sym (c.loop-i.invariant.0 ∙ span_end is_digit _ c.loop-i.i c.loop-i-test.false)
+returns c =
+    count_from_yields_List c.take_while.result c.count.result c.count.ensures.ran
+    (YieldsList-from_take_while _ is_ascii_digit (YieldsList-from_slice c.args.s.now cc) c.take_while.ensures.closure c.take_while.ensures.done (λ x b q k. search (rules, tests)))
+    ∙ digits_span c.args.s.now

@@ -1,11 +1,10 @@
--- `lines::field::longer` meets its contract: a number over the cap stays over it with a digit more.
-use mathlib.Core.Path.{sym}
+-- `lines::field::longer` meets its contract: the cap is the least of the number and the first one over.
+use Prim.Native.Nat.{◌+◌, ◌*◌, ◌-◌}
 use native.Mathlib.Omega.{arith}
-use Rattle.lines.proofs.Laws.{cap_over}
+use Rattle.lines.proofs.Laws.{capped_min}
 use Rattle.lines.proofs.field.longer.Goals as goal
 
-pub returns-then-n-gt4294967295 : goal.returns-then-n-gt4294967295
-returns-then-n-gt4294967295 c = sym (cap_over _ (omega arith))
-
 pub returns : goal.returns
-returns c = rw (← c.worth.ensures, ← c.cap.ensures)
+returns c =
+    let d = c.args.b - 48 in
+    rw (capped_min (c.args.n * 10 + (c.args.b - 48)), c.min.ensures, c.saturating_add.ensures, c.saturating_mul.ensures, c.from-digit.ensures, c.saturating_sub.ensures) (omega arith)

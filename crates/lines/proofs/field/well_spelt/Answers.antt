@@ -1,12 +1,13 @@
 -- `lines::field::well_spelt` meets its contract: no digit, one, or more: the clauses of the definition.
+use native.Mathlib.Omega.{arith}
 use Rattle.lines.proofs.Laws.{spelt_none, spelt_one, spelt_more}
 use Rattle.lines.proofs.field.well_spelt.Goals as goal
 
-pub returns-then-ds-eq0 : goal.returns-then-ds-eq0
-returns-then-ds-eq0 c = rw (spelt_none _ c.if-ds-eq0.true)
+pub returns-in-empty : goal.returns-in-empty
+returns-in-empty c = rw (spelt_none c.args.ds.now (omega arith))
 
-pub returns-then-ds-eq1 : goal.returns-then-ds-eq1
-returns-then-ds-eq1 c = rw (spelt_one _ c.if-ds-eq1.true)
+pub returns-in-len1 : goal.returns-in-len1
+returns-in-len1 c = rw (spelt_one c.args.ds.now (omega arith))
 
-pub returns : goal.returns
-returns c = rw (spelt_more _ c.if-ds-eq0.false c.if-ds-eq1.false)
+pub returns-in-len1-up : goal.returns-in-len1-up
+returns-in-len1-up c = rw (spelt_more c.args.ds.now c.in-len1-up.len_at_least)

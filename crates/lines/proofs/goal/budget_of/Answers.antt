@@ -2,14 +2,14 @@
 use Rattle.lines.specs.Goal.{budget_of}
 use Rattle.lines.proofs.goal.budget_of.Goals as goal
 
-pub returns-in-Last : goal.returns-in-Last
+pub returns-in_err-field : goal.returns-in_err-field
 unfolding budget_of
-returns-in-Last c = rw (← c.read_field-f.ensures, c.in-Last.is)
+returns-in_err-field c = rw (c.from_residual.ensures, ← c.read_field.ensures, c.in_err-field.was)
 
-pub returns-in-More : goal.returns-in-More
+pub returns-in-None : goal.returns-in-None
 unfolding budget_of
-returns-in-More c = rw (← c.read_field-f.ensures, c.in-More.is)
+returns-in-None c = rw (← c.read_field.ensures, c.in_ok-field.was, c.in-None.is)
 
-pub returns-in-Bad : goal.returns-in-Bad
+pub returns-in-Some : goal.returns-in-Some
 unfolding budget_of
-returns-in-Bad c = rw (← c.read_field-f.ensures, c.in-Bad.is)
+returns-in-Some c = rw (← c.read_field.ensures, c.in_ok-field.was, c.in-Some.is)

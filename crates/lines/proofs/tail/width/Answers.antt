@@ -11,18 +11,18 @@ use Rattle.lines.proofs.tail.width.Goals as goal
 pub overflow_add-result : goal.overflow_add-result
 unfolding width_of
 overflow_add-result c =
-    let h : c.in-Line.n + 1 ≤ length c.args.rest.now =
-    rw (← c.cut_line-c.ensures, c.in-Line.is) at (width_le c.args.rest.now) in
+    let h : c.in-Some.n + 1 ≤ length c.args.rest.now =
+    rw (← c.cut_line.ensures, c.in-Some.is) at (width_le c.args.rest.now) in
     omega arith
 
-pub returns-in-Line : goal.returns-in-Line
+pub returns-in-Some : goal.returns-in-Some
 unfolding width_of
-returns-in-Line c =
-    let e : c.in-Line.n + 1 ≡ width_of c.args.rest.now = rw (← c.cut_line-c.ensures, c.in-Line.is) in
+returns-in-Some c =
+    let e : c.in-Some.n + 1 ≡ width_of c.args.rest.now = rw (← c.cut_line.ensures, c.in-Some.is) in
     record { is = e; within = rw e (width_le c.args.rest.now); some = λ h. rw e (width_some c.args.rest.now h) }
 
-pub returns-in-Open : goal.returns-in-Open
+pub returns-in-None : goal.returns-in-None
 unfolding width_of
-returns-in-Open c =
-    let e : length c.args.rest.now ≡ width_of c.args.rest.now = rw (← c.cut_line-c.ensures, c.in-Open.is) in
+returns-in-None c =
+    let e : length c.args.rest.now ≡ width_of c.args.rest.now = rw (← c.cut_line.ensures, c.in-None.is) in
     record { is = e; within = search rules; some = λ h. h }

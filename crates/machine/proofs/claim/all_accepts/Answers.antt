@@ -10,7 +10,7 @@ loop-i-init c = (rw (sub-zero, zero-add), search rules)
 
 pub loop-i-preserved : goal.loop-i-preserved
 loop-i-preserved c = (
-  rw (c.loop-i.invariant.0, sum_more _ c.loop-i.i _ c.loop-i-test.true, ← c.number_at-endings.ensures, add_assoc),
+  rw (c.loop-i.invariant.0, sum_more _ c.loop-i.i _ c.loop-i-test.true, c.from-sum.ensures, ← c.number_at.ensures, add_assoc),
   search rules,
 )
 

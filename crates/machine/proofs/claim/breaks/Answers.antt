@@ -2,26 +2,10 @@
 use Rattle.machine.specs.Judge.{breaks_on}
 use Rattle.machine.proofs.claim.breaks.Goals as goal
 
-pub returns-then-not-accepts : goal.returns-then-not-accepts
+pub returns-then-accepts : goal.returns-then-accepts
 unfolding breaks_on
-returns-then-not-accepts c = rw (← c.accepts.ensures, c.if-not-accepts.true)
+returns-then-accepts c = rw (← c.accepts.ensures, c.if-accepts.true, ← c.walked.ensures)
 
-pub returns-then-walked : goal.returns-then-walked
+pub returns-else-accepts : goal.returns-else-accepts
 unfolding breaks_on
-returns-then-walked c =
-    rw (
-      ← c.accepts.ensures,
-      c.if-not-accepts.false,
-      ← c.walked.ensures,
-      c.if-walked.true,
-    )
-
-pub returns-else-walked : goal.returns-else-walked
-unfolding breaks_on
-returns-else-walked c =
-    rw (
-      ← c.accepts.ensures,
-      c.if-not-accepts.false,
-      ← c.walked.ensures,
-      c.if-walked.false,
-    )
+returns-else-accepts c = rw (← c.accepts.ensures, c.if-accepts.false)

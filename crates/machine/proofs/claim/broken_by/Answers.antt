@@ -2,26 +2,10 @@
 use Rattle.machine.specs.Judge.{broken_by}
 use Rattle.machine.proofs.claim.broken_by.Goals as goal
 
-pub returns-then-not-ends : goal.returns-then-not-ends
+pub returns-then-ends : goal.returns-then-ends
 unfolding broken_by
-returns-then-not-ends c = rw (← c.ends.ensures, c.if-not-ends.true)
+returns-then-ends c = rw (← c.ends.ensures, c.if-ends.true, ← c.walked.ensures)
 
-pub returns-then-walked : goal.returns-then-walked
+pub returns-else-ends : goal.returns-else-ends
 unfolding broken_by
-returns-then-walked c =
-    rw (
-      ← c.ends.ensures,
-      c.if-not-ends.false,
-      ← c.walked.ensures,
-      c.if-walked.true,
-    )
-
-pub returns-else-walked : goal.returns-else-walked
-unfolding broken_by
-returns-else-walked c =
-    rw (
-      ← c.ends.ensures,
-      c.if-not-ends.false,
-      ← c.walked.ensures,
-      c.if-walked.false,
-    )
+returns-else-ends c = rw (← c.ends.ensures, c.if-ends.false)

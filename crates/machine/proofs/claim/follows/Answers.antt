@@ -1,16 +1,14 @@
-use native.Mathlib.Nat.{sub-zero}
-use Rattle.machine.specs.Judge.{follows_on}
-use Rattle.machine.proofs.Loops.{follow_more, follow_end}
+-- `machine::claim::follows` meets its contract: the definition follows the thread over the same records.
+use Rattle.std.proofs.Common.{◌≡◌, rules, ◌∙◌}
+use Rattle.machine.specs.Judge.{follow_at, follow_from, follows_on}
+use Rattle.machine.proofs.Ranges.{fold_below, follow_range}
 use Rattle.machine.proofs.claim.follows.Goals as goal
-
-pub loop-i-init : goal.loop-i-init
-loop-i-init c = rw sub-zero
-
-pub loop-i-preserved : goal.loop-i-preserved
-loop-i-preserved c =
-    rw (c.loop-i.invariant, follow_more _ _ _ _ c.loop-i.i c.loop-i.at c.loop-i-test.true, ← c.follow-at.ensures)
 
 pub returns : goal.returns
 unfolding follows_on
 returns c =
-    rw (c.loop-i.invariant, follow_end _ _ _ _ c.loop-i.i c.loop-i.at c.loop-i-test.false)
+    let l = c.args.records.now in
+    let way : c.fold.result ≡ follow_from c.args.n 0 l c.args.serial c.args.c 0 =
+    fold_below c.args.n (λ k i. follow_at l i c.args.serial c.args.c k) 0 _ _ c.fold.ensures.ran (λ a x b q k. search rules)
+    ∙ follow_range l c.args.serial c.args.c c.args.n in
+    rw way

@@ -3,11 +3,11 @@
 use Rattle.machine.specs.Judge.{fulfils_at}
 use Rattle.machine.proofs.claim.fulfils.Goals as goal
 
-pub returns-then-not-makes : goal.returns-then-not-makes
+pub returns-then-makes : goal.returns-then-makes
 unfolding fulfils_at
-returns-then-not-makes c = rw (← c.makes.ensures, c.if-not-makes.true)
+returns-then-makes c =
+    rw (← c.makes.ensures, c.if-makes.true, ← c.number_at.ensures, ← c.follows.ensures)
 
-pub returns : goal.returns
+pub returns-else-makes : goal.returns-else-makes
 unfolding fulfils_at
-returns c =
-    rw (← c.makes.ensures, c.if-not-makes.false, ← c.number_at-thread.ensures, ← c.follows.ensures)
+returns-else-makes c = rw (← c.makes.ensures, c.if-makes.false)

@@ -3,10 +3,10 @@ use Rattle.terms.proofs.Laws.{tests}
 use Rattle.machine.specs.Judge.{makes_by}
 use Rattle.machine.proofs.judge.makes_by.Goals as goal
 
-pub returns-then-op-making : goal.returns-then-op-making
+pub returns-then-op-making_op : goal.returns-then-op-making_op
 unfolding makes_by
-returns-then-op-making c = search (tests, ← c.making_op-making.ensures)
+returns-then-op-making_op c = search (tests, c.from.ensures, ← c.making_op.ensures)
 
-pub returns : goal.returns
+pub returns-else-op-making_op : goal.returns-else-op-making_op
 unfolding makes_by
-returns c = search (tests, ← c.making_op-making.ensures)
+returns-else-op-making_op c = search (tests, ← c.making_op.ensures)

@@ -10,8 +10,10 @@ returns c =
       put_then,
       put_then,
       put_then,
-      ← c.put_word-a.ensures,
-      ← c.put_field-b.ensures,
-      ← c.put_field-c.ensures,
+      ← c.put_word.ensures,
+      ← c.from.ensures,
+      ← c.put_field.ensures,
+      ← c.from-2.ensures,
+      ← c.put_field-2.ensures,
       ← c.put_end.ensures,
     )

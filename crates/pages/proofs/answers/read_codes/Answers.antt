@@ -1,68 +1,61 @@
-use mathlib.Core.Path.{refl, sym, ◌∙◌}
+use Prim.Native.Nat.{◌<◌, ◌≤◌}
+use mathlib.Core.Path.{◌≡◌, refl, sym, ◌∙◌}
+use lib.ListN.{length}
+use native.Mathlib.Omega.{arith}
 use borrow.Author.Rules.{rules}
+use Rattle.std.specs.Option.{option_flatten}
+use Rattle.std.specs.Result.{result_ok}
+use Rattle.lines.specs.Codes as C
+use Rattle.lines.specs.Codes.{next_code}
 use Rattle.lines.proofs.Lines.{next_moves}
 use Rattle.pages.specs.RunText.{codes_read}
-use Rattle.pages.proofs.Texts.{line_more, line_end, code_put, code_none, code_full}
+use Rattle.pages.proofs.Texts.{line_turn, read_some, read_none, code_put, code_none, code_full}
 use Rattle.pages.proofs.answers.read_codes.Goals as goal
 
-pub loop-at-init : goal.loop-at-init
+pub loop-count-init : goal.loop-count-init
 unfolding codes_read
-loop-at-init c = (refl, refl, search rules, search rules)
-
-pub returns-then-codes-count : goal.returns-then-codes-count
-returns-then-codes-count c = rw (c.loop-at.invariant.0, code_full c.loop-at.count c.loop-at.codes _ c.if-codes-count.true)
+loop-count-init c = (refl, refl, search rules, search rules)
 
 pub overflow_add-at : goal.overflow_add-at
 overflow_add-at c =
-    let e = sym c.in-Next.is ∙ c.next_code-c.ensures in
-    let n = next_moves _ _ c.loop-at.at _ c.in-Next.n c.loop-at-test.true c.rest_of.ensures e in
+    let q : c.flatten.result ≡ option_flatten (result_ok c.next_code.result) = search rules in
+    let e : next_code c.rest_of.result.now ≡ C.Next c.in-Some.code.code c.in-Some.code.next = sym c.next_code.ensures ∙ read_some c.next_code.result c.in-Some.code (sym q ∙ c.in-Some.is) in
+    let n = next_moves c.args.rest.now _ c.loop-count.at _ c.in-Some.code.next c.rest_of.ensures e in
     search rules
 
-pub loop-at-smaller : goal.loop-at-smaller
-loop-at-smaller c =
-    let e = sym c.in-Next.is ∙ c.next_code-c.ensures in
-    let n = next_moves _ _ c.loop-at.at _ c.in-Next.n c.loop-at-test.true c.rest_of.ensures e in
-    search rules
-
-pub loop-at-preserved : goal.loop-at-preserved
-loop-at-preserved c =
-    let e = sym c.in-Next.is ∙ c.next_code-c.ensures in
-    let n = next_moves _ _ c.loop-at.at _ c.in-Next.n c.loop-at-test.true c.rest_of.ensures e in (
+pub loop-count-preserved : goal.loop-count-preserved
+loop-count-preserved c =
+    let h : c.loop-count.count < length c.loop-count.codes = omega (arith, c.loop-count.invariant.1, c.loop-count-test.true) in
+    let q : c.flatten.result ≡ option_flatten (result_ok c.next_code.result) = search rules in
+    let e : next_code c.rest_of.result.now ≡ C.Next c.in-Some.code.code c.in-Some.code.next = sym c.next_code.ensures ∙ read_some c.next_code.result c.in-Some.code (sym q ∙ c.in-Some.is) in
+    let n = next_moves c.args.rest.now _ c.loop-count.at _ c.in-Some.code.next c.rest_of.ensures e in (
       rw (
-        c.loop-at.invariant.0,
-        line_more _ c.loop-at.at c.loop-at-test.true,
+        c.loop-count.invariant.0,
+        line_turn c.args.rest.now c.loop-count.at,
         ← n.is,
         ← c.rest_of.ensures,
-        ← c.next_code-c.ensures,
-        c.in-Next.is,
-        code_put c.loop-at.count c.loop-at.codes _ _ c.if-codes-count.false,
+        e,
+        code_put c.loop-count.count c.loop-count.codes _ _ h,
       ),
       search rules,
       search rules,
       search rules,
     )
 
-pub returns-in-End : goal.returns-in-End
-returns-in-End c =
+pub returns-in_default : goal.returns-in_default
+returns-in_default c =
+    let q : c.flatten.result ≡ option_flatten (result_ok c.next_code.result) = search rules in
     rw (
-      c.loop-at.invariant.0,
-      line_more _ c.loop-at.at c.loop-at-test.true,
+      c.loop-count.invariant.0,
+      line_turn c.args.rest.now c.loop-count.at,
       ← c.rest_of.ensures,
-      ← c.next_code-c.ensures,
-      c.in-End.is,
-      code_none,
-    )
-
-pub returns-in-Bad : goal.returns-in-Bad
-returns-in-Bad c =
-    rw (
-      c.loop-at.invariant.0,
-      line_more _ c.loop-at.at c.loop-at-test.true,
-      ← c.rest_of.ensures,
-      ← c.next_code-c.ensures,
-      c.in-Bad.is,
+      ← c.next_code.ensures,
+      read_none c.next_code.result _ (sym q ∙ c.in_default.is),
       code_none,
     )
 
 pub returns : goal.returns
-returns c = rw (c.loop-at.invariant.0, line_end _ c.loop-at.at c.loop-at-test.false, code_none)
+returns c =
+    let e : c.loop-count.count ≡ length c.loop-count.codes = omega (arith, c.loop-count.invariant.1) in
+    let h : length c.loop-count.codes ≤ c.loop-count.count = omega (arith, c.loop-count.invariant.1) in
+    rw (c.loop-count.invariant.0, code_full c.loop-count.count c.loop-count.codes _ h, e)

@@ -7,10 +7,10 @@ pub returns : goal.returns
 unfolding run_page_on run_text
 returns c =
     rw (
-      ← c.fresh-s.ensures,
+      ← c.fresh.ensures,
       ← c.run-r.ensures,
       put_then,
-      ← c.put_answers-at.ensures,
+      ← c.put_answers.ensures,
       ← c.all_accepts-accepts.ensures,
       ← c.judge-broken.ensures,
       ← c.put_done.ensures,

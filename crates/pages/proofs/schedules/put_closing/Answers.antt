@@ -10,8 +10,8 @@ returns c =
       put_then,
       put_then,
       put_then,
-      ← c.put_word-a.ensures,
-      ← c.put_field-b.ensures,
-      ← c.put_field-c.ensures,
+      ← c.put_word.ensures,
+      ← c.put_field.ensures,
+      ← c.put_field-2.ensures,
       ← c.put_end.ensures,
     )

@@ -1,14 +1,19 @@
+-- `quiet::depths::deepest` meets its contract: the definition compares the same terms, in the same order.
+use Rattle.std.proofs.Common.{◌-◌, rules, refl, ◌∙◌}
+use Rattle.std.proofs.lemmas.Iterator.{YieldsList-from_range}
+use Rattle.std.proofs.lemmas.Iterator.Consumers.{fold_from_yields_List}
+use Prim.Native.Nat.{max}
+use Rattle.terms.specs.Line.{depth_at}
 use Rattle.quiet.specs.Quiet.{deepest}
-use Rattle.quiet.proofs.Deepest.{deepest_more, deepest_end}
+use Rattle.quiet.proofs.Deepest.{deepest_of}
 use Rattle.quiet.proofs.depths.deepest.Goals as goal
 
-pub loop-i-init : goal.loop-i-init
-unfolding deepest
-loop-i-init c = rw (← c.used-end.ensures.is)
-
-pub loop-i-preserved : goal.loop-i-preserved
-loop-i-preserved c =
-    rw (c.loop-i.invariant, deepest_more _ _ c.loop-i.i c.loop-i.deep c.loop-i-test.true, ← c.depth_at.ensures, ← c.larger-deep.ensures)
-
 pub returns : goal.returns
-returns c = rw (c.loop-i.invariant, deepest_end _ _ c.loop-i.i c.loop-i.deep c.loop-i-test.false)
+unfolding deepest
+returns c =
+    let t = c.args.t.now in
+    let n = c.used.result - c.args.from in
+    rw (← c.used.ensures.is)
+    (fold_from_yields_List _ (λ d i. max d (depth_at t i)) c.args.before _ c.fold.ensures.ran
+    (YieldsList-from_range c.args.from c.used.result n refl refl) (λ a x b q k. search rules)
+    ∙ deepest_of n t c.args.from c.args.before)

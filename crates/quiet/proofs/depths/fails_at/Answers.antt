@@ -5,8 +5,8 @@ use Rattle.quiet.proofs.depths.fails_at.Goals as goal
 pub returns-then-q : goal.returns-then-q
 unfolding fails_at
 returns-then-q c =
-    rw (← c.slot_at-q.ensures, ← c.next_action.ensures, ← c.action_fits.ensures, c.if-q.true)
+    rw (← c.slot_at-q.ensures, ← c.next_action.ensures, ← c.from.ensures, ← c.action_fits.ensures, c.if-q.true)
 
-pub returns : goal.returns
+pub returns-else-q : goal.returns-else-q
 unfolding fails_at
-returns c = rw (← c.slot_at-q.ensures, c.if-q.false)
+returns-else-q c = rw (← c.slot_at-q.ensures, c.if-q.false)

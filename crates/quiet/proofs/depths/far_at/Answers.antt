@@ -7,6 +7,6 @@ unfolding far_at
 returns-then-q c =
     rw (← c.slot_at-q.ensures, ← c.next_action.ensures, ← c.action_near.ensures, c.if-q.true)
 
-pub returns : goal.returns
+pub returns-else-q : goal.returns-else-q
 unfolding far_at
-returns c = rw (← c.slot_at-q.ensures, c.if-q.false)
+returns-else-q c = rw (← c.slot_at-q.ensures, c.if-q.false)

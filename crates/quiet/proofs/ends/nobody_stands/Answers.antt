@@ -1,20 +1,11 @@
-use mathlib.Core.Path.{refl}
-use native.Mathlib.Omega.{arith}
-use Rattle.machine.proofs.Loops.{any_more, any_end}
-use Rattle.quiet.specs.Quiet.{nobody_stands}
+-- `quiet::ends::nobody_stands` meets its contract: the definition asks the same of the same twelve numbers.
+use Rattle.std.proofs.Common.{rules}
+use Rattle.machine.proofs.Ranges.{any_listed}
+use Rattle.quiet.specs.Quiet.{stands_in, nobody_stands}
 use Rattle.quiet.proofs.ends.nobody_stands.Goals as goal
 
-pub loop-i-init : goal.loop-i-init
-unfolding nobody_stands
-loop-i-init c = refl
-
-pub returns-then-stands : goal.returns-then-stands
-returns-then-stands c =
-    rw (c.loop-i.invariant, any_more 12 c.loop-i.i _ (omega (arith, c.loop-i-test.true)), ← c.stands.ensures, c.if-stands.true)
-
-pub loop-i-preserved : goal.loop-i-preserved
-loop-i-preserved c =
-    rw (c.loop-i.invariant, any_more 12 c.loop-i.i _ (omega (arith, c.loop-i-test.true)), ← c.stands.ensures, c.if-stands.false)
-
 pub returns : goal.returns
-returns c = rw (c.loop-i.invariant, any_end 12 c.loop-i.i _ c.loop-i-test.false)
+unfolding nobody_stands
+returns c =
+    rw (any_listed c.args.slots.now 12 (λ n. stands_in c.args.m.now.lengths c.args.program n) _ _ _ _ c.any.ensures.ran
+    (cc) (search rules) (λ x b q k. search rules))

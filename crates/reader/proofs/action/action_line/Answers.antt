@@ -1,7 +1,8 @@
--- `reader::action::action_line` meets its contract: the program and the number of the action, then the line.
-use Rattle.reader.specs.ALine.{action_line}
+-- `reader::action::action_line`: a line of bad form is refused as such. The check finds the other answers.
+use Rattle.reader.specs.Numbers.{bad_fields, are_fields}
+use Rattle.reader.specs.ALine.{action_line, action_refusal}
 use Rattle.reader.proofs.action.action_line.Goals as goal
 
-pub returns : goal.returns
-unfolding action_line
-returns c = rw (← c.up_to_255-program.ensures, ← c.length_at-k.ensures) c.action_next.ensures
+pub returns-in_default : goal.returns-in_default
+unfolding bad_fields are_fields action_line action_refusal
+returns-in_default c = rw c.in_default.is

@@ -1,18 +1,8 @@
--- `reader::claim::claim_line` meets its contract: the line is refused, or entered.
-use borrow.Author.Tests.{ne_eqb, eq-eqb}
-use Rattle.reader.specs.CLine.{claim_line}
+-- `reader::claim::claim_line`: a line of bad form is refused as such. The check finds the other answers.
+use Rattle.reader.specs.Numbers.{bad_fields, are_fields}
+use Rattle.reader.specs.CLine.{claim_line, claim_refusal, claim_form20}
 use Rattle.reader.proofs.claim.claim_line.Goals as goal
 
-pub returns-then-n-ne0 : goal.returns-then-n-ne0
-unfolding claim_line
-returns-then-n-ne0 c = rw (← c.claim_refusal-n.ensures, ne_eqb _ _ c.if-n-ne0.true, c.refuse.ensures)
-
-pub returns : goal.returns
-unfolding claim_line
-returns c =
-    rw (
-      ← c.claim_refusal-n.ensures,
-      eq-eqb _ _ c.if-n-ne0.false,
-      ← c.claim_of.ensures,
-      c.claim_entry.ensures,
-    )
+pub returns-in_default : goal.returns-in_default
+unfolding bad_fields are_fields claim_line claim_refusal claim_form20
+returns-in_default c = rw c.in_default.is

@@ -1,22 +1,16 @@
--- `reader::claim::path_names23` meets its contract: each reference in turn.
-use borrow.Author.Tests.{le-leb, lt-leb}
+-- `reader::claim::path_names23` meets its contract: one of the four places is named past the programs.
+use Rattle.std.proofs.Common.{rules}
+use mathlib.Core.Path.{◌∙◌}
+use borrow.Author.Tests.{tests}
+use lib.Dec.{leb}
+use Rattle.std.proofs.lemmas.Iterator.{YieldsList-from_slice}
+use Rattle.std.proofs.lemmas.Iterator.Search.{any_from_yields_List}
 use Rattle.reader.specs.CLine.{path_names23}
+use Rattle.reader.proofs.Laws.{any_four}
 use Rattle.reader.proofs.claim.path_names23.Goals as goal
-
-pub returns-then-programs-v : goal.returns-then-programs-v
-unfolding path_names23
-returns-then-programs-v c = rw (le-leb _ _ c.if-programs-v.true)
-
-pub returns-then-programs-v-2 : goal.returns-then-programs-v-2
-unfolding path_names23
-returns-then-programs-v-2 c = rw (lt-leb _ _ c.if-programs-v.false, le-leb _ _ c.if-programs-v-2.true)
-
-pub returns-then-programs-v-3 : goal.returns-then-programs-v-3
-unfolding path_names23
-returns-then-programs-v-3 c =
-    rw (lt-leb _ _ c.if-programs-v.false, lt-leb _ _ c.if-programs-v-2.false, le-leb _ _ c.if-programs-v-3.true)
 
 pub returns : goal.returns
 unfolding path_names23
 returns c =
-    rw (lt-leb _ _ c.if-programs-v.false, lt-leb _ _ c.if-programs-v-2.false, lt-leb _ _ c.if-programs-v-3.false)
+    any_from_yields_List (leb c.args.programs) _ _ c.any.result c.any.ensures.ran (YieldsList-from_slice _ c.iter.ensures.rest) (λ x b q k. search (rules, tests))
+    ∙ any_four (leb c.args.programs) c.args.f.now.values (search rules)

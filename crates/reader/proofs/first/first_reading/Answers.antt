@@ -2,52 +2,38 @@ use Prim.Native.Nat.{◌-◌, ◌<◌, ◌≤◌}
 use mathlib.Core.Path.{◌≡◌, ap, ◌∙◌}
 use native.Mathlib.Omega.{arith}
 use lib.ListN.{length, length-drop}
-use borrow.Author.Tests.{eq-eqb, ne_eqb, lt-ltb, le-ltb}
-use borrow.Author.Rules.{rules}
-use Rattle.reader.specs.FirstReading.{first_reading}
-use Rattle.reader.proofs.Laws.{read_more, read_end}
+use Rattle.std.proofs.lemmas.Bool.Decides.{nat_tests}
+use Rattle.reader.proofs.Laws.{refused, read_more, read_end}
 use Rattle.reader.proofs.first.first_reading.Goals as goal
 
-pub returns-then-file-gt-BYTES : goal.returns-then-file-gt-BYTES
-unfolding first_reading
-returns-then-file-gt-BYTES c = rw (lt-ltb _ _ c.if-file-gt-BYTES.true, ← c.fresh-d.ensures, c.answer.ensures)
+pub returns-in-Err : goal.returns-in-Err
+returns-in-Err c =
+    let some : 0 < length c.loop-rest.rest.now = grind (arith, nat_tests) in
+    rw (c.loop-rest.invariant.0, read_more _ c.loop-rest.line _ _ _ some, ← c.next_line.ensures, c.in-Err.is, refused)
 
-pub loop-at-init : goal.loop-at-init
-unfolding first_reading
-loop-at-init c = (rw (le-ltb _ _ c.if-file-gt-BYTES.false, ← c.fresh-d.ensures), search rules, search rules, search rules)
+pub loop-rest-smaller : goal.loop-rest-smaller
+loop-rest-smaller c =
+    let some : 0 < length c.loop-rest.rest.now = grind (arith, nat_tests) in
+    let k : 0 < c.width.result = c.width.ensures.some some in
+    omega (arith, ap length c.rest_of-rest.ensures ∙ length-drop c.width.result c.loop-rest.rest.now)
 
-pub returns-then-r-ne0 : goal.returns-then-r-ne0
-returns-then-r-ne0 c = rw (
-  c.loop-at.invariant.0,
-  read_more _ c.loop-at.at c.loop-at.line _ _ _ c.loop-at-test.true,
-  ← c.rest_of-rest.ensures,
-  ← c.next_line-r.ensures,
-  ne_eqb _ _ c.if-r-ne0.true,
-  c.answer-then-r-ne0.ensures,
-)
-
-pub loop-at-smaller : goal.loop-at-smaller
-loop-at-smaller c = let e : length c.rest_of-rest.result.now ≡ length c.args.file.now - c.loop-at.at = ap length c.rest_of-rest.ensures ∙ length-drop c.loop-at.at c.args.file.now in
-    let k : 0 < c.width-wide.result = c.width-wide.ensures.some (omega arith) in
-    let h : c.width-wide.result ≤ length c.args.file.now - c.loop-at.at = rw e at c.width-wide.ensures.within in
-    omega arith
-
-pub loop-at-preserved : goal.loop-at-preserved
-loop-at-preserved c = let e : length c.rest_of-rest.result.now ≡ length c.args.file.now - c.loop-at.at = ap length c.rest_of-rest.ensures ∙ length-drop c.loop-at.at c.args.file.now in
-    let k : 0 < c.width-wide.result = c.width-wide.ensures.some (omega arith) in
-    let h : c.width-wide.result ≤ length c.args.file.now - c.loop-at.at = rw e at c.width-wide.ensures.within in (
+pub loop-rest-preserved : goal.loop-rest-preserved
+loop-rest-preserved c =
+    let some : 0 < length c.loop-rest.rest.now = grind (arith, nat_tests) in
+    let k : 0 < c.width.result = c.width.ensures.some some in
+    let e : length c.rest_of-rest.result.now ≡ length c.loop-rest.rest.now - c.width.result = ap length c.rest_of-rest.ensures ∙ length-drop c.width.result c.loop-rest.rest.now in (
       rw (
-        c.loop-at.invariant.0,
-        read_more _ c.loop-at.at c.loop-at.line _ _ _ c.loop-at-test.true,
+        c.loop-rest.invariant.0,
+        read_more _ c.loop-rest.line _ _ _ some,
+        ← c.next_line.ensures,
+        c.in_default.is,
+        ← c.width.ensures.is,
         ← c.rest_of-rest.ensures,
-        ← c.width-wide.ensures.is,
-        ← c.next_line-r.ensures,
-        eq-eqb _ _ c.if-r-ne0.false,
       ),
       omega arith,
-      omega arith,
-      search rules,
     )
 
 pub returns : goal.returns
-returns c = rw (c.loop-at.invariant.0, read_end _ c.loop-at.at c.loop-at.line _ _ _ c.loop-at-test.false, ← c.whole.ensures)
+returns c =
+    let none : length c.loop-rest.rest.now ≤ 0 = grind (arith, nat_tests) in
+    rw (c.loop-rest.invariant.0, read_end _ c.loop-rest.line _ _ _ none, ← c.whole.ensures)

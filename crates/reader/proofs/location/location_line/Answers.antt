@@ -1,19 +1,8 @@
--- `reader::location::location_line` meets its contract: the line is refused, or entered.
-use borrow.Author.Tests.{ne_eqb, eq-eqb}
-use Rattle.reader.specs.LLine.{location_line}
+-- `reader::location::location_line`: a line of bad form is refused as such. The check finds the other answers.
+use Rattle.reader.specs.Numbers.{bad_fields, are_fields}
+use Rattle.reader.specs.LLine.{location_line, location_refusal}
 use Rattle.reader.proofs.location.location_line.Goals as goal
 
-pub returns-then-n-ne0 : goal.returns-then-n-ne0
-unfolding location_line
-returns-then-n-ne0 c =
-    rw (← c.location_refusal-n.ensures, ne_eqb _ _ c.if-n-ne0.true, c.refuse.ensures)
-
-pub returns : goal.returns
-unfolding location_line
-returns c =
-    rw (
-      ← c.location_refusal-n.ensures,
-      eq-eqb _ _ c.if-n-ne0.false,
-      ← c.location_of.ensures,
-      ← c.location_entry.ensures,
-    )
+pub returns-in_default : goal.returns-in_default
+unfolding bad_fields are_fields location_line location_refusal
+returns-in_default c = rw c.in_default.is

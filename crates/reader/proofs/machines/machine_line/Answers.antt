@@ -1,19 +1,8 @@
--- `reader::machines::machine_line` meets its contract: the line is refused, or entered.
-use borrow.Author.Tests.{ne_eqb, eq-eqb}
-use Rattle.reader.specs.MLine.{machine_line}
+-- `reader::machines::machine_line`: a line of bad form is refused as such. The check finds the other answers.
+use Rattle.reader.specs.Numbers.{bad_fields, are_fields}
+use Rattle.reader.specs.MLine.{machine_line, machine_refusal}
 use Rattle.reader.proofs.machines.machine_line.Goals as goal
 
-pub returns-then-n-ne0 : goal.returns-then-n-ne0
-unfolding machine_line
-returns-then-n-ne0 c =
-    rw (← c.machine_refusal-n.ensures, ne_eqb _ _ c.if-n-ne0.true, c.refuse.ensures)
-
-pub returns : goal.returns
-unfolding machine_line
-returns c =
-    rw (
-      ← c.machine_refusal-n.ensures,
-      eq-eqb _ _ c.if-n-ne0.false,
-      ← c.machine_of.ensures,
-      ← c.machine_entry.ensures,
-    )
+pub returns-in_default : goal.returns-in_default
+unfolding bad_fields are_fields machine_line machine_refusal
+returns-in_default c = rw c.in_default.is

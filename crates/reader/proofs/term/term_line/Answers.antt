@@ -1,24 +1,8 @@
--- `reader::term::term_line` meets its contract: the line is refused, or entered.
-use borrow.Author.Tests.{ne_eqb, eq-eqb}
-use Rattle.reader.specs.ELine.{term_line}
+-- `reader::term::term_line`: a line of bad form is refused as such. The check finds the other answers.
+use Rattle.reader.specs.Numbers.{bad_fields, are_fields}
+use Rattle.reader.specs.ELine.{term_line, term_refusal}
 use Rattle.reader.proofs.term.term_line.Goals as goal
 
-pub returns-then-n-ne0 : goal.returns-then-n-ne0
-unfolding term_line
-returns-then-n-ne0 c =
-    rw (
-      ← c.term_of-x.ensures,
-      ← c.term_refusal-n.ensures,
-      ne_eqb _ _ c.if-n-ne0.true,
-      c.refuse.ensures,
-    )
-
-pub returns : goal.returns
-unfolding term_line
-returns c =
-    rw (
-      ← c.term_of-x.ensures,
-      ← c.term_refusal-n.ensures,
-      eq-eqb _ _ c.if-n-ne0.false,
-      ← c.term_entry.ensures,
-    )
+pub returns-in_default : goal.returns-in_default
+unfolding bad_fields are_fields term_line term_refusal
+returns-in_default c = rw c.in_default.is

@@ -1,24 +1,8 @@
--- `reader::version::version_line` meets its contract: the line is refused, or entered.
-use borrow.Author.Tests.{ne_eqb, eq-eqb}
-use Rattle.reader.specs.VLine.{version_line}
+-- `reader::version::version_line`: a line of bad form is refused as such. The check finds the other answers.
+use Rattle.reader.specs.Numbers.{bad_fields, are_fields}
+use Rattle.reader.specs.VLine.{version_line, version_refusal}
 use Rattle.reader.proofs.version.version_line.Goals as goal
 
-pub returns-then-n-ne0 : goal.returns-then-n-ne0
-unfolding version_line
-returns-then-n-ne0 c =
-    rw (
-      ← c.up_to_255-edition.ensures,
-      ← c.version_refusal-n.ensures,
-      ne_eqb _ _ c.if-n-ne0.true,
-      c.refuse.ensures,
-    )
-
-pub returns : goal.returns
-unfolding version_line
-returns c =
-    rw (
-      ← c.up_to_255-edition.ensures,
-      ← c.version_refusal-n.ensures,
-      eq-eqb _ _ c.if-n-ne0.false,
-      c.version_entry.ensures,
-    )
+pub returns-in_default : goal.returns-in_default
+unfolding bad_fields are_fields version_line version_refusal
+returns-in_default c = rw c.in_default.is

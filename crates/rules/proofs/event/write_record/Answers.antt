@@ -1,33 +1,25 @@
-use Prim.Native.Nat.{◌*◌}
-use mathlib.Core.Path.{refl, ◌∙◌}
-use native.Mathlib.Nat.{add-zero}
+-- `rules::event::write_record` meets its contract: the record's part of the table is written anew.
+use Prim.Native.Nat.{◌+◌, ◌-◌, ◌*◌}
+use mathlib.Core.Path.{◌≡◌, sym}
 use native.Mathlib.Omega.{arith}
-use lib.ListN.{length-set}
-use borrow.Author.Rules.{rules}
 use borrow.Author.Tests.{lt-ltb, le-ltb}
 use Rattle.rules.specs.Event.{record_put}
-use Rattle.rules.proofs.Loops.{sets_more, sets_end}
+use Rattle.rules.proofs.Loops.{put_sets}
 use Rattle.rules.proofs.event.write_record.Goals as goal
 
-pub returns-then-records-from : goal.returns-then-records-from
+pub returns-then-end-records : goal.returns-then-end-records
 unfolding record_put
-returns-then-records-from c = rw (lt-ltb _ _ c.if-records-from.true)
-
-pub loop-k-init : goal.loop-k-init
-loop-k-init c = (rw add-zero, refl, search rules, search rules, search rules)
-
-pub loop-k-preserved : goal.loop-k-preserved
-loop-k-preserved c =
-    let f = c.args.i * 12 in (
-      c.loop-k.invariant.0 ∙ sets_more c.loop-k.records f c.loop-k.k c.args.r.numbers 0 (omega (arith, c.loop-k-test.true)),
-      rw length-set c.loop-k.invariant.1,
-      search rules,
-      search rules,
-      search rules,
+returns-then-end-records c =
+    let i = c.from-from.result * 12 in
+    let z : i + 12 - i ≡ 12 = omega arith in
+    rw (
+      ← c.from-from.ensures,
+      le-ltb _ _ c.if-end-records.true,
+      c.copy_from_slice.ensures.after,
+      z,
+      put_sets i c.args.records.now 12 c.args.r.now.numbers (sym c.told-r) c.if-end-records.true,
     )
 
-pub returns : goal.returns
+pub returns-else-end-records : goal.returns-else-end-records
 unfolding record_put
-returns c =
-    let f = c.args.i * 12 in
-    rw (le-ltb _ _ c.if-records-from.false, c.loop-k.invariant.0, sets_end c.loop-k.records f c.loop-k.k c.args.r.numbers (omega (arith, c.loop-k-test.false)))
+returns-else-end-records c = rw (← c.from-from.ensures, lt-ltb _ _ c.if-end-records.false)

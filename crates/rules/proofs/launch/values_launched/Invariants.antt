@@ -1,6 +1,4 @@
--- `rules::launch::values_launched` meets its contract: the loop keeps that the whole is what stands already and what
--- is still to come. The measure is the values left.
-use Prim.Native.Nat.{◌-◌, ◌≤◌}
+-- `rules::launch::values_launched` meets its contract: the loop keeps that the whole is what stands already and what is still to come.
 use mathlib.Core.List.{◌++◌}
 use mathlib.Core.Path.{◌≡◌}
 use lib.ListN.{length, take, drop}
@@ -10,8 +8,5 @@ use Rattle.rules.proofs.launch.values_launched.Given as goal
 
 abbrev pub invariant-loop-i : goal.invariant-loop-i
 invariant-loop-i l =
-    (values_launched 2 l.initial.values l.locations l.m ≡ take l.i l.values ++ each2 (value_launched 2 l.m) (drop l.i l.values) (drop l.i l.locations))
-    × (length l.values ≡ 32) × (l.i ≤ 32)
-
-abbrev pub decreases-loop-i : goal.decreases-loop-i
-decreases-loop-i l = 32 - l.i
+    (values_launched 2 l.fn.values l.locations l.m ≡ take l.i l.values ++ each2 (value_launched 2 l.m) (drop l.i l.values) (drop l.i l.locations))
+    × (length l.values ≡ 32)

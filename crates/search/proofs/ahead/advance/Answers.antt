@@ -1,56 +1,17 @@
 -- `search::ahead::advance` meets its contract: the turn enters a longer schedule, or not.
-use Rattle.rules.specs.Made.{layout}
-use Rattle.search.proofs.OverRows.{advanced_still, advanced_far}
+use mathlib.Core.Path.{ap, ◌∙◌}
+use Rattle.search.specs.Search.{turned_on}
+use Rattle.search.proofs.Laws.{with_room, longer_room}
 use Rattle.search.proofs.ahead.advance.Goals as goal
 
-pub returns-then-r : goal.returns-then-r
-returns-then-r c =
-    advanced_far
-    c.args.locks.now
-    c.args.values.now
-    c.args.vars.now
-    c.args.counts.now
-    c.level_of-i.result
-    c.counts_at.result
-    c.counts_at.ensures
-    c.args.slots.now
-    c.args.t.now
-    c.args.records.now
-    c.args.room.now
-    c.args.w
-    (layout c.args.actions.now c.args.lengths.now c.args.machines.now c.args.locations.now)
-    c.args.k
-    c.turn-r.result
-    _
-    _
-    c.level_of-i.ensures
-    c.turn-r.ensures
-    c.if-r.true
-    c.entered.result
-    _
-    _
-    c.entered.ensures
+pub returns-in-Some : goal.returns-in-Some
+unfolding turned_on
+returns-in-Some c =
+    let turned = rw c.level_of.ensures.is at c.turn-r.ensures in
+    rw (← turned, c.in-Some.is)
+    (ap (with_room c.turn-r.new.room) c.entered.ensures
+    ∙ longer_room c.args.m.now c.args.k _ c.args.records.now c.turn-r.new.room c.args.w.place c.turn-r.result.walk c.in-Some.step c.args.stack.now c.args.deeps.now)
 
-pub returns : goal.returns
-returns c =
-    advanced_still
-    c.args.locks.now
-    c.args.values.now
-    c.args.vars.now
-    c.args.counts.now
-    c.level_of-i.result
-    c.counts_at.result
-    c.counts_at.ensures
-    c.args.slots.now
-    c.args.t.now
-    c.args.records.now
-    c.args.room.now
-    c.args.w
-    (layout c.args.actions.now c.args.lengths.now c.args.machines.now c.args.locations.now)
-    c.args.k
-    c.turn-r.result
-    _
-    _
-    c.level_of-i.ensures
-    c.turn-r.ensures
-    c.if-r.false
+pub returns-in-None : goal.returns-in-None
+unfolding turned_on
+returns-in-None c = rw (← c.level_of.ensures.is, ← c.turn-r.ensures, c.in-None.is)

@@ -1,147 +1,88 @@
 -- `search::ahead::entered` meets its contract: passed soon, passed late, or entered.
-use Rattle.rules.specs.Made.{layout}
-use Rattle.search.proofs.OverRows.{entered_soon, entered_late_lem, entered_at}
-use native.Mathlib.Omega.{arith}
+use Prim.Native.Nat.{◌+◌}
+use mathlib.Core.List.{List}
+use lib.ListN.{get_or}
+use lib.Seq.{set-set}
+use borrow.Author.Rules.{rules}
+use Rattle.state.specs.declared.control.Control.{Control}
+use Rattle.rules.proofs.Parts.{made_parts}
+use Rattle.search.specs.Enter.{no_control}
+use Rattle.search.specs.Search.{longer}
+use Rattle.search.proofs.Laws.{put_at, below_at, with_slots}
 use Rattle.search.proofs.ahead.entered.Goals as goal
 
 pub returns-then-passes_soon : goal.returns-then-passes_soon
+unfolding longer
 returns-then-passes_soon c =
-    entered_soon
-    c.args.locks.now
-    c.args.values.now
-    c.args.vars.now
-    c.args.counts.now
-    c.level_of-i.result
-    c.counts_at-c.result
-    c.counts_at-c.ensures
-    c.args.slots.now
-    c.args.t.now
-    c.args.records.now
-    c.args.p
-    c.args.r
-    (layout c.args.actions.now c.args.lengths.now c.args.machines.now c.args.locations.now)
-    c.args.k
-    c.deepest-deep.result
-    _
-    c.quiet_at-quiet.result
-    c.passes_soon.result
-    c.level_of-i.ensures
-    c.deepest-deep.ensures
-    c.slots_made.ensures
-    c.quiet_at-quiet.ensures
-    c.passes_soon.ensures
-    c.if-passes_soon.true
-    c.spent_all.result
-    c.spent_all.ensures
-
-pub offset_bounds-slots-j : goal.offset_bounds-slots-j
-offset_bounds-slots-j c =
-    omega (arith, c.level_of-i.ensures.small)
-
-pub bounds-slots-j : goal.bounds-slots-j
-bounds-slots-j c =
-    omega (arith, c.level_of-i.ensures.small)
-
-pub offset_bounds-values-j : goal.offset_bounds-values-j
-offset_bounds-values-j c =
-    omega (arith, c.level_of-i.ensures.small)
-
-pub bounds-values-j : goal.bounds-values-j
-bounds-values-j c =
-    omega (arith, c.level_of-i.ensures.small)
-
-pub offset_bounds-vars-j : goal.offset_bounds-vars-j
-offset_bounds-vars-j c =
-    omega (arith, c.level_of-i.ensures.small)
-
-pub bounds-vars-j : goal.bounds-vars-j
-bounds-vars-j c =
-    omega (arith, c.level_of-i.ensures.small)
+    rw (
+      ← c.level_of-i.ensures.is,
+      made_parts _ _ _ _,
+      ← c.deepest-deep.ensures,
+      ← c.slots_made.ensures,
+      ← c.quiet_at-quiet.ensures,
+      ← c.passes_soon.ensures,
+      c.if-passes_soon.true,
+      ← c.spent_all.ensures,
+    )
 
 pub returns-then-passes_late : goal.returns-then-passes_late
+unfolding longer
 returns-then-passes_late c =
-    entered_late_lem
-    c.args.locks.now
-    c.args.values.now
-    c.args.vars.now
-    c.args.counts.now
-    c.level_of-i.result
-    c.counts_at-c.result
-    c.counts_at-c.ensures
-    c.args.slots.now
-    c.args.t.now
-    c.args.records.now
-    c.args.p
-    c.args.r
-    (layout c.args.actions.now c.args.lengths.now c.args.machines.now c.args.locations.now)
-    c.args.k
-    c.deepest-deep.result
-    _
-    c.quiet_at-quiet.result
-    c.passes_soon.result
-    c.level_of-i.ensures
-    c.deepest-deep.ensures
-    c.slots_made.ensures
-    c.quiet_at-quiet.ensures
-    c.passes_soon.ensures
-    c.if-passes_soon.false
-    _
-    _
-    _
-    _
-    c.passes_late.result
-    c.rest_rows.ensures
-    c.passes_late.ensures
-    c.if-passes_late.true
-    c.spent_all-then-passes_late.result
-    c.spent_all-then-passes_late.ensures
-
-pub offset_bounds-slots-i-3 : goal.offset_bounds-slots-i-3
-offset_bounds-slots-i-3 c =
-    omega (arith, c.level_of-i.ensures.small)
-
-pub bounds-slots-i-3 : goal.bounds-slots-i-3
-bounds-slots-i-3 c =
-    omega (arith, c.level_of-i.ensures.small)
+    let i = c.level_of-i.result in
+    let stack : List Control = c.args.stack.now in
+    let s : Control = get_or stack i no_control in
+    let n : Control = c.rest_made.new.s in
+    let made = rw (put_at stack i s (search rules) c.level_of-i.ensures.small) at c.rest_made.ensures in
+    let kept = put_at stack i n (search rules) c.level_of-i.ensures.small in
+    let after = put_at stack i (with_slots n c.slots_made.new.slots) (search rules) c.level_of-i.ensures.small in
+    let late = rw (set-set stack (i + 1) s n, kept, set-set stack (i + 1) n (with_slots n c.slots_made.new.slots), after, made) at c.passes_late.ensures in
+    rw (
+      set-set stack (i + 1) s n,
+      kept,
+      set-set,
+      made,
+      ← c.level_of-i.ensures.is,
+      made_parts _ _ _ _,
+      ← c.deepest-deep.ensures,
+      ← c.slots_made.ensures,
+      ← c.quiet_at-quiet.ensures,
+      ← c.passes_soon.ensures,
+      c.if-passes_soon.false,
+      ← late,
+      c.if-passes_late.true,
+      ← c.spent_all-then-passes_late.ensures,
+    )
 
 pub returns : goal.returns
+unfolding longer
 returns c =
-    entered_at
-    c.args.locks.now
-    c.args.values.now
-    c.args.vars.now
-    c.args.counts.now
-    c.level_of-i.result
-    c.counts_at-c.result
-    c.counts_at-c.ensures
-    c.args.slots.now
-    c.args.t.now
-    c.args.records.now
-    c.args.p
-    c.args.r
-    (layout c.args.actions.now c.args.lengths.now c.args.machines.now c.args.locations.now)
-    c.args.k
-    c.deepest-deep.result
-    _
-    c.quiet_at-quiet.result
-    c.passes_soon.result
-    c.level_of-i.ensures
-    c.deepest-deep.ensures
-    c.slots_made.ensures
-    c.quiet_at-quiet.ensures
-    c.passes_soon.ensures
-    c.if-passes_soon.false
-    _
-    _
-    _
-    _
-    c.passes_late.result
-    c.rest_rows.ensures
-    c.passes_late.ensures
-    c.if-passes_late.false
-    _
-    c.pushed.result
-    c.stands_at.result
-    c.note_step.ensures
-    c.pushed.ensures
-    c.stands_at.ensures
+    let i = c.level_of-i.result in
+    let stack : List Control = c.args.stack.now in
+    let s : Control = get_or stack i no_control in
+    let n : Control = c.rest_made.new.s in
+    let made = rw (put_at stack i s (search rules) c.level_of-i.ensures.small) at c.rest_made.ensures in
+    let kept = put_at stack i n (search rules) c.level_of-i.ensures.small in
+    let after = put_at stack i (with_slots n c.slots_made.new.slots) (search rules) c.level_of-i.ensures.small in
+    let late = rw (set-set stack (i + 1) s n, kept, set-set stack (i + 1) n (with_slots n c.slots_made.new.slots), after, made) at c.passes_late.ensures in
+    let below = below_at stack i (with_slots n c.slots_made.new.slots) in
+    let shown = rw (set-set stack (i + 1) s n, kept, set-set stack (i + 1) n (with_slots n c.slots_made.new.slots), below) at c.happened-h.ensures in
+    let written = rw c.from.ensures at c.write_record.ensures in
+    rw (
+      set-set stack (i + 1) s n,
+      kept,
+      set-set,
+      made,
+      ← c.level_of-i.ensures.is,
+      made_parts _ _ _ _,
+      ← c.deepest-deep.ensures,
+      ← c.slots_made.ensures,
+      ← c.quiet_at-quiet.ensures,
+      ← c.passes_soon.ensures,
+      c.if-passes_soon.false,
+      ← late,
+      c.if-passes_late.false,
+      c.pushed.ensures,
+      written,
+      c.record_of.ensures,
+      shown,
+    )

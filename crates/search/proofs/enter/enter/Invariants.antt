@@ -1,5 +1,4 @@
--- `search::enter::enter` meets its contract: the loop keeps what entering all steps gives. The measure is the steps
--- left.
+-- `search::enter::enter` meets its contract: the loop keeps what entering all steps gives.
 use Prim.Native.Nat.{◌-◌, ◌≤◌}
 use mathlib.Core.Path.{◌≡◌}
 use lib.ListN.{length}
@@ -9,7 +8,4 @@ use Rattle.search.proofs.enter.enter.Given as goal
 abbrev pub invariant-loop-i : goal.invariant-loop-i
 invariant-loop-i l =
     (enter_on l.initial.t l.initial.records l.m l.p ≡ enter_in (l.p.length - l.i) l.m l.p l.i (climb l.stack l.place l.t l.records))
-    × (length l.records ≡ length l.initial.records) × (l.p.length ≤ 255)
-
-abbrev pub decreases-loop-i : goal.decreases-loop-i
-decreases-loop-i l = l.p.length - l.i
+    × (length l.records ≡ length l.initial.records) × (length l.stack ≡ 25) × (l.i ≤ l.p.length) × (l.i-end ≡ l.p.length)

@@ -1,6 +1,5 @@
 -- `search::search::listing` meets its contract: the refusals in the definition's order, then the place entered and
 -- the walk.
-use borrow.Author.Tests.{not-true, not-false}
 use Rattle.search.specs.Search.{listing_on}
 use Rattle.search.proofs.search.listing.Goals as goal
 
@@ -8,7 +7,8 @@ pub returns-then-not-sound_model : goal.returns-then-not-sound_model
 unfolding listing_on
 returns-then-not-sound_model c =
     rw (
-      ← c.refused_listing.ensures,
+      c.refused_listing.ensures,
+      c.number.ensures,
       ← c.sound_model.ensures,
       c.if-not-sound_model.true,
     )
@@ -17,7 +17,8 @@ pub returns-then-not-bound_fits : goal.returns-then-not-bound_fits
 unfolding listing_on
 returns-then-not-bound_fits c =
     rw (
-      ← c.refused_listing-then-not-bound_fits.ensures,
+      c.refused_listing-then-not-bound_fits.ensures,
+      c.number-then-not-bound_fits.ensures,
       ← c.sound_model.ensures,
       c.if-not-sound_model.false,
       ← c.bound_fits.ensures,
@@ -28,7 +29,8 @@ pub returns-then-not-in_bounds : goal.returns-then-not-in_bounds
 unfolding listing_on
 returns-then-not-in_bounds c =
     rw (
-      ← c.refused_listing-then-not-in_bounds.ensures,
+      c.refused_listing-then-not-in_bounds.ensures,
+      c.number-then-not-in_bounds.ensures,
       ← c.sound_model.ensures,
       c.if-not-sound_model.false,
       ← c.bound_fits.ensures,
@@ -37,9 +39,9 @@ returns-then-not-in_bounds c =
       c.if-not-in_bounds.true,
     )
 
-pub returns-then-not-e : goal.returns-then-not-e
+pub returns-in-Err : goal.returns-in-Err
 unfolding listing_on
-returns-then-not-e c =
+returns-in-Err c =
     rw (
       ← c.sound_model.ensures,
       c.if-not-sound_model.false,
@@ -47,14 +49,15 @@ returns-then-not-e c =
       c.if-not-bound_fits.false,
       ← c.in_bounds.ensures,
       c.if-not-in_bounds.false,
-      ← c.enter-e.ensures,
-      not-true c.enter-e.result.good c.if-not-e.true,
-      ← c.refused_listing-then-not-e.ensures,
+      ← c.enter.ensures,
+      c.in-Err.is,
+      c.refused_listing-in-Err.ensures,
+      c.number-in-Err.ensures,
     )
 
-pub returns : goal.returns
+pub returns-in-Ok : goal.returns-in-Ok
 unfolding listing_on
-returns c =
+returns-in-Ok c =
     rw (
       ← c.sound_model.ensures,
       c.if-not-sound_model.false,
@@ -62,9 +65,8 @@ returns c =
       c.if-not-bound_fits.false,
       ← c.in_bounds.ensures,
       c.if-not-in_bounds.false,
-      ← c.enter-e.ensures,
+      ← c.enter.ensures,
+      c.in-Ok.is,
       ← c.outline_of.ensures,
-      ← c.walk-w.ensures,
-      ← c.less.ensures,
-      not-false c.enter-e.result.good c.if-not-e.false,
+      ← c.walk.ensures,
     )

@@ -1,7 +1,5 @@
 -- `search::turn::turn` meets its contract: the definition's cases, in the code's order.
 use borrow.Author.Tests.{lt-ltb, le-ltb, le-leb, lt-leb, eq-eqb, ne_eqb}
-use Rattle.rules.proofs.Parts.{work_lent_lem}
-use Rattle.search.specs.Rows.{control_from}
 use Rattle.search.specs.Turn.{turn_on}
 use Rattle.search.proofs.turn.turn.Goals as goal
 
@@ -55,6 +53,7 @@ returns-then-w-passed-2 c =
 pub returns-then-broken_by : goal.returns-then-broken_by
 unfolding turn_on
 returns-then-broken_by c =
+    let broken = rw c.from.ensures at c.broken_by.ensures in
     rw (
       c.still-then-broken_by.ensures,
       lt-leb _ _ c.if-p-ge-NONE.false,
@@ -66,21 +65,20 @@ returns-then-broken_by c =
       ← c.cut.ensures,
       ← c.code_after.ensures.is,
       ← c.past-v.ensures,
-      work_lent_lem _ (control_from c.args.slots.now c.args.locks.now c.args.values.now c.args.vars.now c.args.c) _ _,
-      ← c.work_lent-r.ensures,
-      c.in-Done.is,
+      ← c.work.ensures,
+      c.in-Ok.is,
       ← c.ended_by-e.ensures,
-      ← c.broken_by.ensures,
+      ← broken,
       c.if-broken_by.true,
       ← c.pushed.ensures,
       ← c.found.ensures,
     )
 
-pub returns-in-Refused : goal.returns-in-Refused
+pub returns-in-Err : goal.returns-in-Err
 unfolding turn_on
-returns-in-Refused c =
+returns-in-Err c =
     rw (
-      c.still-in-Refused.ensures,
+      c.still-in-Err.ensures,
       lt-leb _ _ c.if-p-ge-NONE.false,
       ← c.seek-code.ensures,
       ← c.between-passed.ensures,
@@ -90,15 +88,15 @@ returns-in-Refused c =
       ← c.cut.ensures,
       ← c.code_after.ensures.is,
       ← c.past-v.ensures,
-      work_lent_lem _ (control_from c.args.slots.now c.args.locks.now c.args.values.now c.args.vars.now c.args.c) _ _,
-      ← c.work_lent-r.ensures,
-      c.in-Refused.is,
+      ← c.work.ensures,
+      c.in-Err.is,
       ← c.refused_by.ensures,
     )
 
 pub returns-else-broken_by : goal.returns-else-broken_by
 unfolding turn_on
 returns-else-broken_by c =
+    let broken = rw c.from.ensures at c.broken_by.ensures in
     rw (
       lt-leb _ _ c.if-p-ge-NONE.false,
       ← c.seek-code.ensures,
@@ -109,11 +107,10 @@ returns-else-broken_by c =
       ← c.cut.ensures,
       ← c.code_after.ensures.is,
       ← c.past-v.ensures,
-      work_lent_lem _ (control_from c.args.slots.now c.args.locks.now c.args.values.now c.args.vars.now c.args.c) _ _,
-      ← c.work_lent-r.ensures,
-      c.in-Done.is,
+      ← c.work.ensures,
+      c.in-Ok.is,
       ← c.ended_by-e.ensures,
-      ← c.broken_by.ensures,
+      ← broken,
       c.if-broken_by.false,
       ← c.entering.ensures,
     )

@@ -1,22 +1,8 @@
-use mathlib.Core.Path.{refl}
+-- `state::seek::next_sender` meets its contract: what `find` gives of the slots from this one on.
 use borrow.Author.Rules.{rules}
-use Rattle.state.proofs.Sought.{sender_more, sender_end}
+use Rattle.state.proofs.Found.{sender_found}
 use Rattle.state.proofs.seek.next_sender.Goals as goal
-
-pub loop-i-init : goal.loop-i-init
-loop-i-init c = refl
-
-pub returns-then-sends : goal.returns-then-sends
-returns-then-sends c =
-    record {
-      is = rw (c.loop-i.invariant, sender_more _ _ c.loop-i.i c.loop-i-test.true, ← c.sends.ensures, c.if-sends.true);
-      small = search rules;
-    }
-
-pub loop-i-preserved : goal.loop-i-preserved
-loop-i-preserved c =
-    rw (c.loop-i.invariant, sender_more _ _ c.loop-i.i c.loop-i-test.true, ← c.sends.ensures, c.if-sends.false)
 
 pub returns : goal.returns
 returns c =
-    record { is = rw (c.loop-i.invariant, sender_end _ _ c.loop-i.i c.loop-i-test.false); small = search rules }
+    rw c.unwrap_or.ensures (sender_found c.args.slots.now c.args.actions.now c.args.from _ _ _ c.find.ensures.ran (λ x b q k. search rules))

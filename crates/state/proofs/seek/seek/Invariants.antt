@@ -2,12 +2,14 @@
 -- this number on gives. The measure is the numbers left.
 use Prim.Native.Nat.{◌-◌}
 use mathlib.Core.Path.{◌≡◌}
-use Rattle.state.specs.Early.{sight}
+use Rattle.state.specs.Early.{sight_of}
 use Rattle.state.specs.Seek.{seek_from}
 use Rattle.state.proofs.seek.seek.Given as goal
 
 abbrev pub invariant-loop-code : goal.invariant-loop-code
-invariant-loop-code l = seek_from (sight l.slots l.locks l.steps l.actions l.locations l.machines) l.from ≡ seek_from (sight l.slots l.locks l.steps l.actions l.locations l.machines) l.code
+invariant-loop-code l =
+    let g = sight_of l.f l.m.actions l.m.locations l.m.machine_count in
+    seek_from g l.from ≡ seek_from g l.code
 
 abbrev pub decreases-loop-code : goal.decreases-loop-code
 decreases-loop-code l = 164 - l.code

@@ -1,26 +1,22 @@
-use mathlib.Core.Path.{refl, sym, ◌∙◌}
-use native.Mathlib.Omega.{arith}
+-- `state::slot::lowest_free` meets its contract: what `position` gives of the first slot that is free.
 use borrow.Author.Rules.{rules}
-use borrow.Author.Tests.{not-true, not-false}
-use Rattle.state.specs.Slot.{lowest_free}
-use Rattle.state.proofs.Laws.{lowest_here, lowest_on, lowest_end}
+use mathlib.Core.Path.{sym, ◌∙◌}
+use Rattle.std.proofs.lemmas.Iterator.{YieldsList-from_slice}
+use Rattle.std.proofs.lemmas.Iterator.Search.{position_from_yields_List}
+use Rattle.state.proofs.Found.{free_at, lowest_found}
 use Rattle.state.proofs.slot.lowest_free.Goals as goal
 
-pub loop-i-init : goal.loop-i-init
-unfolding lowest_free
-loop-i-init c = (refl, search rules, search rules)
-
-pub returns-then-not-s : goal.returns-then-not-s
-returns-then-not-s c =
-    record {
-      is = sym (c.loop-i.invariant.0 ∙ lowest_here _ c.loop-i.i (omega arith) (rw (← c.slot_in-s.ensures) (not-true c.slot_in-s.result.live c.if-not-s.true)));
-      small = search rules;
-    }
-
-pub loop-i-preserved : goal.loop-i-preserved
-loop-i-preserved c =
-    (c.loop-i.invariant.0 ∙ lowest_on _ c.loop-i.i (omega arith) (rw (← c.slot_in-s.ensures) (not-false c.slot_in-s.result.live c.if-not-s.false)), search rules, search rules)
+pub returns-in_err-i : goal.returns-in_err-i
+returns-in_err-i c =
+    c.from_residual.ensures
+    ∙ sym c.in_err-i.was
+    ∙ lowest_found c.args.slots.now c.position.result
+    (position_from_yields_List free_at _ _ c.position.result c.position.ensures.ran (YieldsList-from_slice c.args.slots.now cc) (λ x b q k. search rules))
+    c.told-slots
 
 pub returns : goal.returns
 returns c =
-    record { is = omega (arith, c.loop-i.invariant.0, lowest_end c.args.slots.now c.loop-i.i (omega arith)); small = search rules }
+    sym c.in_ok-i.was
+    ∙ lowest_found c.args.slots.now c.position.result
+    (position_from_yields_List free_at _ _ c.position.result c.position.ensures.ran (YieldsList-from_slice c.args.slots.now cc) (λ x b q k. search rules))
+    c.told-slots

@@ -5,41 +5,41 @@ use Rattle.terms.proofs.entry.graded.Goals as goal
 
 pub returns-then-g-gt-DEPTH : goal.returns-then-g-gt-DEPTH
 unfolding enter_from
-returns-then-g-gt-DEPTH c = rw (c.got_deep.ensures, lt-ltb _ _ c.if-g-gt-DEPTH.true)
+returns-then-g-gt-DEPTH c = rw (c.refused.ensures, lt-ltb _ _ c.if-g-gt-DEPTH.true)
 
-pub returns-then-free-eq0 : goal.returns-then-free-eq0
+pub returns-in-Some : goal.returns-in-Some
 unfolding enter_from
-returns-then-free-eq0 c =
+returns-in-Some c =
     rw (
-      c.got_full.ensures,
+      c.listed.ensures,
       le-ltb _ _ c.if-g-gt-DEPTH.false,
       ← c.pack-n.ensures,
-      ← c.find_line-f.ensures,
-      c.in-Nothing.is,
-      ← c.free_entries-free.ensures.is,
-      eq-eqb _ _ c.if-free-eq0.true,
+      ← c.find_line.ensures,
+      c.in-Some.is,
     )
 
-pub returns-in-At : goal.returns-in-At
+pub returns-then-free_entries-eq0 : goal.returns-then-free_entries-eq0
 unfolding enter_from
-returns-in-At c =
+returns-then-free_entries-eq0 c =
     rw (
-      c.got_label.ensures,
+      c.refused-then-free_entries-eq0.ensures,
       le-ltb _ _ c.if-g-gt-DEPTH.false,
       ← c.pack-n.ensures,
-      ← c.find_line-f.ensures,
-      c.in-At.is,
+      ← c.find_line.ensures,
+      c.in_default.is,
+      ← c.free_entries.ensures.is,
+      eq-eqb _ _ c.if-free_entries-eq0.true,
     )
 
-pub returns-else-free-eq0 : goal.returns-else-free-eq0
+pub returns : goal.returns
 unfolding enter_from
-returns-else-free-eq0 c =
+returns c =
     rw (
-      c.got_label-in-Nothing.ensures,
+      c.listed-2.ensures,
       le-ltb _ _ c.if-g-gt-DEPTH.false,
       ← c.pack-n.ensures,
-      ← c.find_line-f.ensures,
-      c.in-Nothing.is,
-      ← c.free_entries-free.ensures.is,
-      ne_eqb _ _ c.if-free-eq0.false,
+      ← c.find_line.ensures,
+      c.in_default.is,
+      ← c.free_entries.ensures.is,
+      ne_eqb _ _ c.if-free_entries-eq0.false,
     )

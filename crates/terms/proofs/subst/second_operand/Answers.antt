@@ -1,12 +1,13 @@
 -- `terms::subst::second_operand` meets its contract: a label, or why there is none.
 use Rattle.terms.specs.Subst.{second_operand}
-use Rattle.terms.proofs.Answers.{answer_with, operand_without}
+use Rattle.terms.proofs.Answers.{taken_size}
 use Rattle.terms.proofs.subst.second_operand.Goals as goal
+use Rattle.terms.proofs.subst.second_operand.Goals.{in-Ok, in-Err}
 
-pub returns-then-has_label : goal.returns-then-has_label
+pub returns : goal.returns
 unfolding second_operand
-returns-then-has_label c =
-    rw (answer_with _ _ c.has_label.ensures c.if-has_label.true, ← c.label_in.ensures, ← c.count_in.ensures)
-
-pub returns-else-has_label : goal.returns-else-has_label
-returns-else-has_label c = rw (operand_without _ _ c.has_label.ensures _ c.if-has_label.false, ← c.not_taken.ensures)
+returns c =
+    elim c.match-label.branch [
+      | in-Ok w ↦ rw (w.labels-is, ← c.label.ensures, w.in-Ok.is, ← c.count.ensures)
+      | in-Err w ↦ rw (w.labels-is, ← c.label.ensures, w.in-Err.is, taken_size, ← c.count.ensures)
+    ]

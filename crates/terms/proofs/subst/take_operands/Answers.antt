@@ -1,22 +1,27 @@
 -- `terms::subst::take_operands` meets its contract: what came of both walks, and the table cut back where that is a refusal.
+use mathlib.Core.Path.{◌≡◌}
 use Rattle.terms.specs.Subst.{take_operands}
+use Rattle.terms.specs.declared.table.Size.TheVariants as Z
 use Rattle.terms.proofs.subst.take_operands.Goals as goal
 
-pub returns-in-Labels : goal.returns-in-Labels
+pub returns-in-Ok : goal.returns-in-Ok
 unfolding take_operands
-returns-in-Labels c = rw (← c.take_both-r.ensures, c.in-Labels.is)
+returns-in-Ok c = rw (← c.take_both-walked.ensures, c.in-Ok.is)
 
-pub returns-in-Deep : goal.returns-in-Deep
+pub returns-in-Err-Deep : goal.returns-in-Err-Deep
 unfolding take_operands
-returns-in-Deep c =
-    rw (← c.take_both-r.ensures, c.in-Deep.is, ← c.cut.ensures)
+returns-in-Err-Deep c =
+    let deep : c.in-Err-Deep.field-0 ≡ Z.Deep = rw c.in-Err-Deep.is at c.in-Err-Deep.field-0-is in
+    rw (← c.take_both-walked.ensures, c.in-Err-Deep.is, deep, ← c.cut.ensures)
 
-pub returns-in-Full : goal.returns-in-Full
+pub returns-in-Err-Full : goal.returns-in-Err-Full
 unfolding take_operands
-returns-in-Full c =
+returns-in-Err-Full c =
+    let full : c.in-Err-Full.field-0 ≡ Z.Full = rw c.in-Err-Full.is at c.in-Err-Full.field-0-is in
     rw (
-      ← c.take_both-r.ensures,
-      c.in-Full.is,
-      ← c.cut-in-Full.ensures,
-      ← c.deep_or_full-taken.ensures,
+      ← c.take_both-walked.ensures,
+      c.in-Err-Full.is,
+      full,
+      ← c.cut-in-Err-Full.ensures,
+      ← c.deep_or_full.ensures,
     )

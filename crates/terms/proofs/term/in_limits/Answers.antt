@@ -1,45 +1,37 @@
--- `terms::term::in_limits` meets its contract: by the shape, whose test is the callee's or a comparison of the code.
+-- `terms::term::in_limits` meets its contract: by the shape, as the definition does.
+use borrow.Author.Tests.{eq-eqb, ne_eqb, lt-ltb, le-ltb}
 use Rattle.terms.specs.Term.{in_limits}
+use Rattle.terms.proofs.Shapes.{second_limits, free_limits}
 use Rattle.terms.proofs.term.in_limits.Goals as goal
 
-pub returns-in-Bare : goal.returns-in-Bare
+pub returns-then-x-eq0 : goal.returns-then-x-eq0
 unfolding in_limits
-returns-in-Bare c =
-    rw (
-      ← c.shape_of-s.ensures,
-      c.in-Bare.is,
-      ← c.both.ensures,
-    )
+returns-then-x-eq0 c = rw (← c.shape_of.ensures, c.in-Bare.is, eq-eqb _ _ c.if-x-eq0.true)
+
+pub returns-else-x-eq0 : goal.returns-else-x-eq0
+unfolding in_limits
+returns-else-x-eq0 c = rw (← c.shape_of.ensures, c.in-Bare.is, ne_eqb _ _ c.if-x-eq0.false)
 
 pub returns-in-Number : goal.returns-in-Number
 unfolding in_limits
-returns-in-Number c = rw (← c.shape_of-s.ensures, c.in-Number.is)
+returns-in-Number c = rw (← c.shape_of.ensures, second_limits _ _ _ c.in-Number.is)
 
-pub returns-in-Variable : goal.returns-in-Variable
+pub returns-then-x-lt-VARIABLES : goal.returns-then-x-lt-VARIABLES
 unfolding in_limits
-returns-in-Variable c =
-    rw (
-      ← c.shape_of-s.ensures,
-      c.in-Variable.is,
-      ← c.both-in-Variable.ensures,
-    )
+returns-then-x-lt-VARIABLES c = rw (← c.shape_of.ensures, c.in-Variable.is, lt-ltb _ _ c.if-x-lt-VARIABLES.true)
+
+pub returns-else-x-lt-VARIABLES : goal.returns-else-x-lt-VARIABLES
+unfolding in_limits
+returns-else-x-lt-VARIABLES c = rw (← c.shape_of.ensures, c.in-Variable.is, le-ltb _ _ c.if-x-lt-VARIABLES.false)
 
 pub returns-in-Sealed : goal.returns-in-Sealed
 unfolding in_limits
-returns-in-Sealed c = rw (← c.shape_of-s.ensures, c.in-Sealed.is)
-
-pub returns-in-Hashed : goal.returns-in-Hashed
-unfolding in_limits
-returns-in-Hashed c = rw (← c.shape_of-s.ensures, c.in-Hashed.is)
+returns-in-Sealed c = rw (← c.shape_of.ensures, free_limits _ _ _ c.in-Sealed.is)
 
 pub returns-in-Applied : goal.returns-in-Applied
 unfolding in_limits
-returns-in-Applied c = rw (← c.shape_of-s.ensures, c.in-Applied.is)
-
-pub returns-in-Joined : goal.returns-in-Joined
-unfolding in_limits
-returns-in-Joined c = rw (← c.shape_of-s.ensures, c.in-Joined.is)
+returns-in-Applied c = rw (← c.shape_of.ensures, c.in-Applied.is)
 
 pub returns-in-Unknown : goal.returns-in-Unknown
 unfolding in_limits
-returns-in-Unknown c = rw (← c.shape_of-s.ensures, c.in-Unknown.is)
+returns-in-Unknown c = rw (← c.shape_of.ensures, c.in-Unknown.is)

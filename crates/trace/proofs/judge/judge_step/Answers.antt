@@ -17,13 +17,13 @@ returns-then-accepts c =
       c.if-accepts.true,
     )
 
-pub returns : goal.returns
+pub returns-else-accepts : goal.returns-else-accepts
 unfolding judge_step
-returns c =
+returns-else-accepts c =
     search (
       tests,
       c.if-j.false,
       ← c.accepts.ensures,
       c.if-accepts.false,
-      ← c.follow-at.ensures,
+      ← c.follow.ensures,
     )

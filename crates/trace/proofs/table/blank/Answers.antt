@@ -2,4 +2,4 @@
 use Rattle.trace.proofs.table.blank.Goals as goal
 
 pub returns : goal.returns
-returns c = rw c.none-none.ensures
+returns c = rw c.none.ensures

@@ -7,6 +7,6 @@ pub returns-then-wanted : goal.returns-then-wanted
 unfolding follower_of
 returns-then-wanted c = search (tests, ← c.wanted.ensures, c.if-wanted.true)
 
-pub returns : goal.returns
+pub returns-else-wanted : goal.returns-else-wanted
 unfolding follower_of
-returns c = search (tests, ← c.wanted.ensures, c.if-wanted.false)
+returns-else-wanted c = search (tests, ← c.wanted.ensures, c.if-wanted.false)

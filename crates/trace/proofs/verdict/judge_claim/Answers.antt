@@ -28,7 +28,7 @@ loop-i-preserved c =
       from_more c.args.k0.upto c.loop-i.i c.args.es.now c.loop-i.k c.loop-i-test.true,
       ← c.event_at-e.ensures,
       ← c.follower.ensures,
-      ← c.judge_all-j.ensures,
+      ← c.judge_all.ensures,
       ← c.verdict_step-k.ensures,
     )
 

@@ -6,19 +6,18 @@ use Rattle.trace.proofs.verdict.judge_table.Goals as goal
 
 pub loop-i-init : goal.loop-i-init
 loop-i-init c =
-    (omega arith, stood_start c.args.records.now c.blank-es.result, ap length c.blank-es.ensures ∙ length-replicate 4096 no_event)
+    (stood_start c.args.records.now c.blank-es.result, ap length c.blank-es.ensures ∙ length-replicate 4096 no_event)
 
 pub loop-i-preserved : goal.loop-i-preserved
 loop-i-preserved c =
     let i = c.loop-i.i in
-    let long = c.loop-i.invariant.2 in (
-      omega arith,
-      rw (c.put_event.ensures, c.event_from-e.ensures)
-          (c.loop-i.invariant.1 ∙ stood_more 4096 i c.args.records.now c.loop-i.es (omega arith) (omega (arith, long))),
-      ap length c.put_event.ensures ∙ length-set c.loop-i.es i c.event_from-e.result ∙ long,
+    let long = c.loop-i.invariant.1 in (
+      rw (c.put_event.ensures, c.from.ensures, c.event_from.ensures)
+          (c.loop-i.invariant.0 ∙ stood_more 4096 i c.args.records.now c.loop-i.es (omega arith) (omega (arith, long))),
+      ap length c.put_event.ensures ∙ length-set c.loop-i.es c.from.result c.event_from.result ∙ long,
     )
 
 pub returns : goal.returns
 returns c =
-    let long = c.loop-i.invariant.2 in
-    rw (c.loop-i.invariant.1, stood_end 4096 c.loop-i.i c.args.records.now c.loop-i.es (omega arith) (omega (arith, long))) c.judge_claim.ensures
+    let long = c.loop-i.invariant.1 in
+    rw (c.loop-i.invariant.0, stood_end 4096 c.loop-i.i c.args.records.now c.loop-i.es (omega arith) (omega (arith, long))) c.judge_claim.ensures

@@ -1,8 +1,7 @@
 -- `trace::verdict::start` meets its contract.
-use Rattle.terms.proofs.Laws.{tests}
 use Rattle.trace.specs.Verdict.{starting}
 use Rattle.trace.proofs.verdict.start.Goals as goal
 
 pub returns : goal.returns
 unfolding starting
-returns c = search (tests)
+returns c = rw c.from.ensures

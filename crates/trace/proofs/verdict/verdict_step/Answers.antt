@@ -30,14 +30,14 @@ returns-then-wanted c =
       ← c.one_more.ensures,
     )
 
-pub returns : goal.returns
+pub returns-else-wanted : goal.returns-else-wanted
 unfolding verdict_step
-returns c =
+returns-else-wanted c =
     simp (
       c.if-k.false,
       ← c.accepts.ensures,
       c.if-accepts.false,
       ← c.wanted.ensures,
       c.if-wanted.false,
-      ← c.one_more-2.ensures,
+      ← c.one_more-else-wanted.ensures,
     )

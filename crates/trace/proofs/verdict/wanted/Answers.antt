@@ -1,16 +1,22 @@
--- `trace::verdict::wanted` meets its contract: each early return is one test of the definition.
-use Rattle.terms.proofs.Laws.{tests}
+-- `trace::verdict::wanted` meets its contract: the tests of the definition, in its order.
+use Rattle.std.proofs.Common.{sym, ◌∙◌, arith}
+use borrow.Author.Tests.{not-true, not-false}
 use Rattle.trace.specs.Verdict.{wants}
 use Rattle.trace.proofs.verdict.wanted.Goals as goal
+use Rattle.trace.proofs.verdict.wanted.Goals.{then-not-k, else-not-k}
 
-pub returns-then-k : goal.returns-then-k
+pub returns-then-not-k-2 : goal.returns-then-not-k-2
 unfolding wants
-returns-then-k c = search (tests, c.if-k.true)
+returns-then-not-k-2 c =
+    elim c.if-not-k.branch [
+      | then-not-k w ↦ rw (w.if-not-k.true, not-true _ (sym w.value-is ∙ c.if-not-k-2.true), ← c.makes.ensures)
+      | else-not-k w ↦ grind arith
+    ]
 
-pub returns-then-k-2 : goal.returns-then-k-2
+pub returns-else-not-k-2 : goal.returns-else-not-k-2
 unfolding wants
-returns-then-k-2 c = search (tests, c.if-k.false, c.if-k-2.true)
-
-pub returns : goal.returns
-unfolding wants
-returns c = search (tests, c.if-k.false, c.if-k-2.false, ← c.makes.ensures)
+returns-else-not-k-2 c =
+    elim c.if-not-k.branch [
+      | then-not-k w ↦ rw (c.if-not-k-2.false, w.if-not-k.true, not-false _ (sym w.value-is ∙ c.if-not-k-2.false))
+      | else-not-k w ↦ rw (c.if-not-k-2.false, w.if-not-k.false)
+    ]

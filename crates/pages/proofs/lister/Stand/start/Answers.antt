@@ -4,4 +4,4 @@ use Rattle.pages.proofs.lister.Stand.start.Goals as goal
 
 pub returns : goal.returns
 unfolding stand_start
-returns c = rw (← c.start-place.ensures)
+returns c = rw (← c.start.ensures)

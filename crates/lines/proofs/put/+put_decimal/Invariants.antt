@@ -1,5 +1,0 @@
--- `lines::put::put_decimal`: the measure is the number.
-use Rattle.lines.proofs.put.+put_decimal.Given as goal
-
-abbrev pub decreases-put_decimal : goal.decreases-put_decimal
-decreases-put_decimal l = l.n

@@ -1,0 +1,5 @@
+-- `lines::put::put_decimal`: the measure is the number.
+use Rattle.lines.proofs.put.Page.+put_decimal.Given as goal
+
+abbrev pub decreases-put_decimal : goal.decreases-put_decimal
+decreases-put_decimal l = l.n

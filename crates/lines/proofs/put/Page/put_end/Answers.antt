@@ -1,0 +1,7 @@
+-- `lines::put::put_end` meets its contract: one byte.
+use mathlib.Core.Path.{◌∙◌, sym}
+use Rattle.lines.proofs.Puts.{put_one}
+use Rattle.lines.proofs.put.Page.put_end.Goals as goal
+
+pub returns : goal.returns
+returns c = c.put_byte.ensures ∙ sym (put_one _ _)

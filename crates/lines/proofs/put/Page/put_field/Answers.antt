@@ -1,0 +1,9 @@
+-- `lines::put::Page::put_field` meets its contract: a blank, then the decimal.
+use Rattle.lines.specs.Put.{blank_and}
+use Rattle.lines.proofs.Puts.{put_cons}
+use Rattle.lines.proofs.put.Page.put_field.Goals as goal
+
+pub returns : goal.returns
+unfolding blank_and
+returns c =
+    rw (put_cons, ← c.put_byte.ensures, ← c.put_decimal.ensures)

@@ -1,0 +1,18 @@
+-- `lines::put::Page::put_refused` meets its contract: four parts one after the other.
+use Rattle.lines.specs.Put.{refused_line}
+use Rattle.lines.proofs.Puts.{put_then}
+use Rattle.lines.proofs.put.Page.put_refused.Goals as goal
+
+pub returns : goal.returns
+unfolding refused_line
+returns c =
+    rw (
+      put_then,
+      put_then,
+      put_then,
+      ← c.put_word.ensures,
+      ← c.from.ensures,
+      ← c.put_field.ensures,
+      ← c.put_field-2.ensures,
+      ← c.put_end.ensures,
+    )

@@ -1,9 +1,0 @@
--- `lines::put::put_field` meets its contract: a blank, then the decimal.
-use Rattle.lines.specs.Put.{blank_and}
-use Rattle.lines.proofs.Puts.{put_cons}
-use Rattle.lines.proofs.put.put_field.Goals as goal
-
-pub returns : goal.returns
-unfolding blank_and
-returns c =
-    rw (put_cons, ← c.put_byte-next.ensures, ← c.put_decimal.ensures)
