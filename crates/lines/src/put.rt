@@ -1,5 +1,6 @@
 // Words and decimals onto a page: lent bytes, and the place where the next byte goes. A byte that finds the page full is
-// dropped, and the place stays.
+// dropped, and the place stays. A page keeps the very slice that it was lent (same_bytes), or whoever lent it would know
+// nothing of it afterwards.
 ghost use Rattle.std.specs.Prelude.{◌≡◌, [], ◌∷◌, take};
 ghost use Rattle.lines.specs.Put.{written, seen, put_byte, put_all, word_of, digit_of, decimal, blank_and, refused_line};
 
@@ -49,7 +50,8 @@ impl<'a> Page<'a> {
     }
 
     pub fn put_byte(&mut self, b: u8)
-        ensures { seen self.new ≡ put_byte b (seen self.old) }
+        ensures written { seen self.new ≡ put_byte b (seen self.old) }
+        ensures same_bytes { self.new.bytes.ghost_name ≡ self.old.bytes.ghost_name }
     {
         // kept: a proof knows no element of a slice after its `get_mut`
         if self.next < self.bytes.len() {
@@ -59,7 +61,8 @@ impl<'a> Page<'a> {
     }
 
     fn put_bytes(&mut self, word: &[u8])
-        ensures { seen self.new ≡ put_all word.now (seen self.old) }
+        ensures written { seen self.new ≡ put_all word.now (seen self.old) }
+        ensures same_bytes { self.new.bytes.ghost_name ≡ self.old.bytes.ghost_name }
     {
         for b in word {
             self.put_byte(*b);
@@ -67,14 +70,16 @@ impl<'a> Page<'a> {
     }
 
     pub fn put_word(&mut self, w: Word)
-        ensures { seen self.new ≡ put_all (word_of w) (seen self.old) }
+        ensures written { seen self.new ≡ put_all (word_of w) (seen self.old) }
+        ensures same_bytes { self.new.bytes.ghost_name ≡ self.old.bytes.ghost_name }
     {
         self.put_bytes(w.bytes());
     }
 
     // The digits before the last one come first.
     pub fn put_decimal(&mut self, n: u32)
-        ensures { seen self.new ≡ put_all (decimal n) (seen self.old) }
+        ensures written { seen self.new ≡ put_all (decimal n) (seen self.old) }
+        ensures same_bytes { self.new.bytes.ghost_name ≡ self.old.bytes.ghost_name }
     {
         if n < 10 {
             self.put_byte(digit(n));
@@ -86,21 +91,24 @@ impl<'a> Page<'a> {
 
     // A blank, then a decimal: fields are parted by one blank.
     pub fn put_field(&mut self, n: u32)
-        ensures { seen self.new ≡ put_all (blank_and n) (seen self.old) }
+        ensures written { seen self.new ≡ put_all (blank_and n) (seen self.old) }
+        ensures same_bytes { self.new.bytes.ghost_name ≡ self.old.bytes.ghost_name }
     {
         self.put_byte(b' ');
         self.put_decimal(n);
     }
 
     pub fn put_end(&mut self)
-        ensures { seen self.new ≡ put_all (10 ∷ []) (seen self.old) }
+        ensures written { seen self.new ≡ put_all (10 ∷ []) (seen self.old) }
+        ensures same_bytes { self.new.bytes.ghost_name ≡ self.old.bytes.ghost_name }
     {
         self.put_byte(b'\n');
     }
 
     // The whole line of a refusal: its number, and the line that it names.
     pub fn put_refused(&mut self, number: u8, line: u32)
-        ensures { seen self.new ≡ put_all (refused_line number line) (seen self.old) }
+        ensures written { seen self.new ≡ put_all (refused_line number line) (seen self.old) }
+        ensures same_bytes { self.new.bytes.ghost_name ≡ self.old.bytes.ghost_name }
     {
         self.put_word(Word::Refused);
         self.put_field(u32::from(number));

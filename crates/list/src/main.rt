@@ -3,7 +3,7 @@
 
 use intake::{Failure, blank, ended, read_input};
 use lines::field::front_of;
-use lines::goal::last_goal;
+use lines::goal::{Goal, last_goal};
 use lines::put::Page;
 use model::records::Model;
 use pages::lister::{Stand, list_page};
@@ -30,14 +30,19 @@ fn list_all(out: &mut impl Write, m: Model, bound: u8, budget: u32) -> io::Resul
     Ok(())
 }
 
-fn answer(out: &mut impl Write, s: &[u8]) -> io::Result<()> {
-    let goal = match last_goal(s) {
-        Ok(goal) => goal,
-        Err(fault) => return write_refused(out, fault.number(), fault.line()),
-    };
-    match reader::load(front_of(s, goal.at)) {
+// Not inlined, so that an input with no good G line takes no stack for a model and the room of a listing.
+#[inline(never)]
+fn with_model(out: &mut impl Write, file: &[u8], goal: Goal) -> io::Result<()> {
+    match reader::load(file) {
         Ok(m) => list_all(out, m, goal.bound, goal.budget),
         Err(fault) => write_refused(out, fault.refusal.number(), fault.line),
+    }
+}
+
+fn answer(out: &mut impl Write, s: &[u8]) -> io::Result<()> {
+    match last_goal(s) {
+        Ok(goal) => with_model(out, front_of(s, goal.at), goal),
+        Err(fault) => write_refused(out, fault.number(), fault.line()),
     }
 }
 

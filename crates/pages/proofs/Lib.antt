@@ -1,7 +1,7 @@
 -- Beside the proofs of the functions: one line more of a text (Texts); what a page shows (Printed) and that it is long
 -- enough (Fits); that a page with another behind it has spent of the budget (Spends); the text of all pages (Pages),
 -- which is the listing of the search (Listed); the codes that a run reads (Codes), and that its page is long enough
--- (RunFits); worked examples (Facts).
+-- (RunFits); that an answer is fixed by what the definitions say of it (Only); worked examples (Facts).
 pub mod Texts
 pub mod Printed
 pub mod Fits
@@ -10,4 +10,5 @@ pub mod Pages
 pub mod Listed
 pub mod Codes
 pub mod RunFits
+pub mod Only
 pub mod Facts

@@ -2,12 +2,14 @@
 use Prim.Native.Nat.{ℕ, ◌+◌, ◌<◌, ◌≤◌}
 use mathlib.Core.Bool.{Bool, true, false}
 use mathlib.Core.List.{List}
-use mathlib.Core.Path.{◌≡◌, refl, sym, ap, subst}
+use mathlib.Core.Path.{◌≡◌, refl, sym, ap, subst, ◌∙◌}
 use native.Mathlib.Omega.{arith}
 use lib.ListN.{length}
 use Rattle.terms.specs.Base.{pick}
 use Rattle.model.specs.declared.records.Model.{Model}
 use Rattle.state.proofs.Threads.{never}
+use Rattle.lines.specs.Put.{written}
+use Rattle.lines.proofs.Puts.{all_long}
 use Rattle.search.specs.Search.{listing_on}
 use Rattle.search.specs.Shown.{GoodBudget, Arrays}
 use Rattle.search.specs.declared.answer.Kind.{Kind}
@@ -29,6 +31,12 @@ pub page_falls : (m : Model) → Arrays m → (bound budget : ℕ) (s : Stand) (
 unfolding page_on
 page_falls m arrays bound budget s room page long can h g =
     listing_spends m arrays bound s.place long s.left can room h (found_goes (listing_on m bound s.place s.left room).out.kind g)
+
+-- a page keeps its length
+pub page_long : (m : Model) (bound budget : ℕ) (s r : Stand) (room page room' page' : List ℕ)
+    → paged r room' page' ≡ page_on m bound budget s room page → length page' ≡ length page
+unfolding page_on
+page_long m bound budget s r room page room' page' e = ap (λ (x : Paged). length x.page) e ∙ all_long _ (written 0 page)
 
 -- how many pages there can still be
 abbrev pub pages_left : Stand → ℕ

@@ -66,7 +66,7 @@ module _ (n i e : ℕ) (codes ans l : List ℕ) (w : Written) where
 
 -- one R line more
 module _ (s : List ℕ) (at : ℕ) where
-  line_more : at < length s
+  pub line_more : at < length s
       → codes_of (lines_of (drop at s)) ≡ code_then (next_code (drop at s)) (codes_of (lines_of (drop (at + width_of (drop at s)) s)))
   unfolding codes_of
   line_more h =
@@ -74,7 +74,7 @@ module _ (s : List ℕ) (at : ℕ) where
       let some : 0 < length r = omega (arith, length-drop at s) in
       ap codes_of (lines_cons r some) ∙ rw (first_line r, drop-drop (width_of r) at s)
 
-  line_end : length s ≤ at → codes_of (lines_of (drop at s)) ≡ []
+  pub line_end : length s ≤ at → codes_of (lines_of (drop at s)) ≡ []
   unfolding lines_of codes_of
   line_end h = rw (drop_of_length-le s h)
 

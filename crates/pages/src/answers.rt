@@ -40,7 +40,8 @@ pub fn put_answers(
     records: &[u16],
     tried: usize,
 )
-    ensures { seen page.new ≡ put_all (answers_text tried 0 0 codes.now answers.now records.now) (seen page.old) }
+    ensures written { seen page.new ≡ put_all (answers_text tried 0 0 codes.now answers.now records.now) (seen page.old) }
+    ensures same_bytes { page.new.bytes.ghost_name ≡ page.old.bytes.ghost_name }
 {
     let mut event = 0;
     for i in 0..tried {
@@ -52,7 +53,8 @@ pub fn put_answers(
 }
 
 fn put_answer(page: &mut Page<'_>, code: u16, number: u8, records: &[u16], i: u16)
-    ensures { seen page.new ≡ put_all (answer_line code number records.now i) (seen page.old) }
+    ensures written { seen page.new ≡ put_all (answer_line code number records.now i) (seen page.old) }
+    ensures same_bytes { page.new.bytes.ghost_name ≡ page.old.bytes.ghost_name }
 {
     if number == 0 {
         put_ok(page, code, records, i);
@@ -63,7 +65,8 @@ fn put_answer(page: &mut Page<'_>, code: u16, number: u8, records: &[u16], i: u1
 
 // ok: code, serial, op.
 fn put_ok(page: &mut Page<'_>, code: u16, records: &[u16], i: u16)
-    ensures { seen page.new ≡ put_all (ok_line code records.now i) (seen page.old) }
+    ensures written { seen page.new ≡ put_all (ok_line code records.now i) (seen page.old) }
+    ensures same_bytes { page.new.bytes.ghost_name ≡ page.old.bytes.ghost_name }
 {
     let op = number_at(records, i, Record::OP);
     let serial = serial_of(records, i, op);
@@ -76,7 +79,8 @@ fn put_ok(page: &mut Page<'_>, code: u16, records: &[u16], i: u16)
 
 // no: code, number.
 fn put_no(page: &mut Page<'_>, code: u16, number: u8)
-    ensures { seen page.new ≡ put_all (no_line code number) (seen page.old) }
+    ensures written { seen page.new ≡ put_all (no_line code number) (seen page.old) }
+    ensures same_bytes { page.new.bytes.ghost_name ≡ page.old.bytes.ghost_name }
 {
     page.put_word(Word::No);
     page.put_field(u32::from(code));
@@ -86,7 +90,8 @@ fn put_no(page: &mut Page<'_>, code: u16, number: u8)
 
 // done: steps, accepts of any program, first breaking step or 0.
 pub fn put_done(page: &mut Page<'_>, steps: u16, accepts: u32, broken: u16)
-    ensures { seen page.new ≡ put_all (done_line steps accepts broken) (seen page.old) }
+    ensures written { seen page.new ≡ put_all (done_line steps accepts broken) (seen page.old) }
+    ensures same_bytes { page.new.bytes.ghost_name ≡ page.old.bytes.ghost_name }
 {
     page.put_word(Word::Done);
     page.put_field(u32::from(steps));

@@ -45,7 +45,8 @@ pub fn list_page(
     room: &mut [u8],
     page: &mut Page<'_>,
 ) -> Stand
-    ensures { paged (stand_in result page.new.next) room.new page.new.bytes.now ≡ page_on m.now bound budget (stand_in s page.old.next) room.old page.old.bytes.now }
+    ensures written { paged (stand_in result page.new.next) room.new page.new.bytes.now ≡ page_on m.now bound budget (stand_in s page.old.next) room.old page.old.bytes.now }
+    ensures same_bytes { page.new.bytes.ghost_name ≡ page.old.bytes.ghost_name }
 {
     let l = listing(m, bound, s.place, s.left, room);
     let left = s.left.saturating_sub(l.tries);
@@ -71,7 +72,8 @@ fn goes_on(kind: Kind) -> bool
 
 // What stands after the schedules of a page.
 fn put_last(page: &mut Page<'_>, kind: Kind, tries: u32, sized: u32)
-    ensures { seen page.new ≡ put_all (last_text kind tries sized) (seen page.old) }
+    ensures written { seen page.new ≡ put_all (last_text kind tries sized) (seen page.old) }
+    ensures same_bytes { page.new.bytes.ghost_name ≡ page.old.bytes.ghost_name }
 {
     match kind {
         Kind::Found => {}

@@ -18,7 +18,8 @@ pub fn run_page(
     records: &mut [u16],
     page: &mut Page<'_>,
 )
-    ensures { told page.new.next answers.new records.new page.new.bytes.now ≡ run_page_on m.now codes.now answers.old records.old page.old.bytes.now }
+    ensures written { told page.new.next answers.new records.new page.new.bytes.now ≡ run_page_on m.now codes.now answers.old records.old page.old.bytes.now }
+    ensures same_bytes { page.new.bytes.ghost_name ≡ page.old.bytes.ghost_name }
 {
     let mut t = m.lines;
     let r = run(&mut t, m, &Control::fresh(m), codes, answers, records);

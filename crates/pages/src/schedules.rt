@@ -10,7 +10,8 @@ use search::answer::Listing;
 
 // The lines of the first schedules of a room.
 pub fn put_schedules(page: &mut Page<'_>, room: &[u8], found: u32)
-    ensures { seen page.new ≡ put_all (schedules_text found room.now 0) (seen page.old) }
+    ensures written { seen page.new ≡ put_all (schedules_text found room.now 0) (seen page.old) }
+    ensures same_bytes { page.new.bytes.ghost_name ≡ page.old.bytes.ghost_name }
 {
     for i in 0..found {
         put_schedule(page, room, i as usize * Listing::WIDTH);
@@ -19,7 +20,8 @@ pub fn put_schedules(page: &mut Page<'_>, room: &[u8], found: u32)
 
 // bad, the length, the codes: the schedule whose length stands at a place of the room, its codes behind it.
 fn put_schedule(page: &mut Page<'_>, room: &[u8], start: usize)
-    ensures { seen page.new ≡ put_all (schedule_line room.now start) (seen page.old) }
+    ensures written { seen page.new ≡ put_all (schedule_line room.now start) (seen page.old) }
+    ensures same_bytes { page.new.bytes.ghost_name ≡ page.old.bytes.ghost_name }
 {
     let length = byte_at(room, start);
     page.put_word(Word::Bad);
@@ -29,7 +31,8 @@ fn put_schedule(page: &mut Page<'_>, room: &[u8], start: usize)
 }
 
 fn put_codes(page: &mut Page<'_>, room: &[u8], start: usize, length: u8)
-    ensures { seen page.new ≡ put_all (codes_text length room.now (start + 1)) (seen page.old) }
+    ensures written { seen page.new ≡ put_all (codes_text length room.now (start + 1)) (seen page.old) }
+    ensures same_bytes { page.new.bytes.ghost_name ≡ page.old.bytes.ghost_name }
 {
     for i in 0..length {
         let code = byte_behind(room, start, usize::from(i) + 1);
@@ -46,7 +49,8 @@ fn byte_behind(room: &[u8], start: usize, k: usize) -> u8
 
 // end or stop, the tries of the whole listing, the tries refused for size.
 pub fn put_closing(page: &mut Page<'_>, word: Word, tries: u32, sized: u32)
-    ensures { seen page.new ≡ put_all (closing_line word tries sized) (seen page.old) }
+    ensures written { seen page.new ≡ put_all (closing_line word tries sized) (seen page.old) }
+    ensures same_bytes { page.new.bytes.ghost_name ≡ page.old.bytes.ghost_name }
 {
     page.put_word(word);
     page.put_field(tries);

@@ -54,7 +54,7 @@ number_fails s f (Ok x) e h g = absurd (let z : ◌≡◌ {A = ℕ} 0 1 = cc in 
 number_fails s f (Err d) e h g = let k : f.number < 65536 → ⊥ = h in let m : f.number ≤ 65535 = read_le f s 65535 e in omega arith
 
 -- fields_of: one field more, and no room for one
-fields_step : (n : ℕ) (s : List ℕ) (got : Fields) → 0 < n → fields_in n s got ≡ fields_by (field_of s 65535) s got (λ t g. fields_in (n - 1) t g)
+pub fields_step : (n : ℕ) (s : List ℕ) (got : Fields) → 0 < n → fields_in n s got ≡ fields_by (field_of s 65535) s got (λ t g. fields_in (n - 1) t g)
 unfolding fields_in
 fields_step zero s got h = absurd (omega arith)
 fields_step (suc n) s got h = rw sub-one

@@ -1,5 +1,5 @@
--- Beside the proofs of the functions: the laws that these cite (Laws, Ranges), that a refusal leaves nothing behind (Outcome), worked
--- examples (Worked); and that a loaded model is sound, each file resting on those above it: what holds of a draft after good
+-- Beside the proofs of the functions: the laws that these cite (Laws, Ranges), that a refusal leaves nothing behind and an answer
+-- is fixed by what the definitions say of it (Outcome), worked examples (Worked); and that a loaded model is sound, each file resting on those above it: what holds of a draft after good
 -- lines (LoadedFacts), the ways that one line more keeps it, both readings (LoadedFirst, LoadedSecond), the theorem
 -- (LoadedSound), and the listing of document 01 (LoadedBare).
 pub mod Laws

@@ -1,5 +1,5 @@
 // A program op loc x y: one more action, of the last program or of the next one.
-#![tactic(auto, using(crate::proofs::Laws::refused), unfolding(crate::specs::ALine::action_of, crate::specs::ALine::action_order21, crate::specs::ALine::action_limits22, crate::specs::ALine::location_past, crate::specs::ALine::label_bad, crate::specs::ALine::action_names23, crate::specs::ALine::action_refusal, crate::specs::ALine::action_entry, crate::specs::ALine::action_counted, crate::specs::ALine::action_line, crate::specs::Drafts::with_action))]
+#![tactic(auto, using(crate::proofs::Laws::refused), unfolding(crate::specs::Numbers::are_fields, crate::specs::ALine::action_of, crate::specs::ALine::action_order21, crate::specs::ALine::action_limits22, crate::specs::ALine::location_past, crate::specs::ALine::label_bad, crate::specs::ALine::action_names23, crate::specs::ALine::action_refusal, crate::specs::ALine::action_entry, crate::specs::ALine::action_counted, crate::specs::ALine::action_line, crate::specs::Drafts::with_action))]
 
 ghost use Rattle.std.specs.Prelude.{◌≡◌};
 ghost use Rattle.terms.specs.Base.{held};
@@ -48,7 +48,7 @@ fn action_of(f: &Fields) -> Action
 fn action_refusal(d: &Draft, f: &Fields, program: u8, k: u8, a: Action) -> Result<(), Refusal>
     ensures { number_in result ≡ action_refusal d.now (good f.now) program k a }
 {
-    if !f.are(5) {
+    if f.count != 5 {
         return Err(Refusal::Form);
     }
     if action_order21(d, program) {

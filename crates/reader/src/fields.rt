@@ -33,11 +33,11 @@ impl Fields {
         Some(self)
     }
 
-    // That many numbers.
-    pub fn are(&self, n: u8) -> bool
-        ensures { result ≡ are_fields (good self.now) n }
+    // A line of good form with that many numbers.
+    pub fn are(line: &Option<Fields>, n: u8) -> bool
+        ensures { result ≡ are_fields (told line.now) n }
     {
-        self.count == n
+        matches!(line, Some(f) if f.count == n)
     }
 }
 

@@ -29,6 +29,9 @@ pub struct Reading {
 }
 
 impl Reading {
+    // A file has at most this many bytes.
+    pub const BYTES: usize = Tail::BYTES;
+
     // Before the first line: the fixed terms alone.
     pub fn fresh() -> Reading
         ensures terms { result.terms ≡ fresh_table.lines }
@@ -78,7 +81,7 @@ pub fn first_reading(file: &[u8], r: &mut Reading) -> Result<(), Fault>
     ensures { kept (read_in result r.new.draft) r.new.terms r.new.actions
         ≡ reading_on file.now r.old.terms r.old.actions r.old.draft }
 {
-    if Tail::BYTES < file.len() {
+    if Reading::BYTES < file.len() {
         return Err(Fault {
             refusal: Refusal::Length,
             line: 0,

@@ -7,7 +7,7 @@
 //            the records V, E, A, M, L, T, C: the rules of refusal in the order of their numbers, then the entry
 //   first    the first reading, line after line
 //   second   the second reading: what only later lines tell
-//   built    the model
+//   built    the model, and what stands for that of a refused file
 #![tactic(auto)]
 
 ghost use Rattle.std.specs.Prelude.{◌≡◌};
@@ -33,7 +33,8 @@ pub mod term;
 pub mod thread;
 pub mod version;
 
-// Both readings of a file. A refused file gives its refusal and the line, and no model at all.
+// Both readings of a file. A refused file gives its refusal and the line, and no model at all: built::or_no_model gives
+// the one of zeros for it.
 pub fn load(file: &[u8]) -> Result<Model, Fault>
     ensures { loaded_in result ≡ load_of file.now }
 {

@@ -1,5 +1,5 @@
 // L loc machine kind value: one more location, with the label that it holds at the start.
-#![tactic(auto, using(crate::proofs::Laws::refused), unfolding(crate::specs::LLine::location_order21, crate::specs::LLine::location_limits22, crate::specs::LLine::location_names23, crate::specs::LLine::location_kind25, crate::specs::LLine::location_refusal, crate::specs::LLine::location_of, crate::specs::LLine::location_entry, crate::specs::LLine::location_line, crate::specs::Drafts::with_location))]
+#![tactic(auto, using(crate::proofs::Laws::refused), unfolding(crate::specs::Numbers::are_fields, crate::specs::LLine::location_order21, crate::specs::LLine::location_limits22, crate::specs::LLine::location_names23, crate::specs::LLine::location_kind25, crate::specs::LLine::location_refusal, crate::specs::LLine::location_of, crate::specs::LLine::location_entry, crate::specs::LLine::location_line, crate::specs::Drafts::with_location))]
 
 ghost use Rattle.std.specs.Prelude.{◌≡◌};
 ghost use Rattle.reader.specs.Refused.{number_in};
@@ -27,7 +27,7 @@ pub fn location_line(t: &[u64; 512], d: &mut Draft, f: &Option<Fields>) -> Resul
 fn location_refusal(t: &[u64; 512], d: &Draft, f: &Fields) -> Result<(), Refusal>
     ensures { number_in result ≡ location_refusal t.now d.now (good f.now) }
 {
-    if !f.are(4) {
+    if f.count != 4 {
         return Err(Refusal::Form);
     }
     if location_order21(d.group, d.location_count, f.values[0]) {

@@ -1,5 +1,5 @@
 // M machine boot launch protected: one more machine, with programs that are all listed before it.
-#![tactic(auto, using(crate::proofs::Laws::refused), unfolding(crate::specs::MLine::machine_order21, crate::specs::MLine::machine_limits22, crate::specs::MLine::machine_names23, crate::specs::MLine::machine_refusal, crate::specs::MLine::machine_of, crate::specs::MLine::machine_entry, crate::specs::MLine::machine_line, crate::specs::Drafts::with_machine))]
+#![tactic(auto, using(crate::proofs::Laws::refused), unfolding(crate::specs::Numbers::are_fields, crate::specs::MLine::machine_order21, crate::specs::MLine::machine_limits22, crate::specs::MLine::machine_names23, crate::specs::MLine::machine_refusal, crate::specs::MLine::machine_of, crate::specs::MLine::machine_entry, crate::specs::MLine::machine_line, crate::specs::Drafts::with_machine))]
 
 ghost use Rattle.std.specs.Prelude.{◌≡◌};
 ghost use Rattle.reader.specs.Refused.{number_in};
@@ -25,7 +25,7 @@ pub fn machine_line(d: &mut Draft, f: &Option<Fields>) -> Result<(), Refusal>
 fn machine_refusal(d: &Draft, f: &Fields) -> Result<(), Refusal>
     ensures { number_in result ≡ machine_refusal d.now (good f.now) }
 {
-    if !f.are(4) {
+    if f.count != 4 {
         return Err(Refusal::Form);
     }
     if machine_order21(d.group, d.machine_count, f.values[0]) {

@@ -1,5 +1,5 @@
 // E label kind a b: one more term of the table.
-#![tactic(auto, using(crate::proofs::Laws::refused), unfolding(crate::specs::ELine::term_of, crate::specs::ELine::term_order21, crate::specs::ELine::term_limits22, crate::specs::ELine::term_names23, crate::specs::ELine::term_twice24, crate::specs::ELine::term_kind25, crate::specs::ELine::term_refusal, crate::specs::ELine::term_counted, crate::specs::ELine::term_entry, crate::specs::ELine::term_line, crate::specs::Drafts::with_term))]
+#![tactic(auto, using(crate::proofs::Laws::refused), unfolding(crate::specs::Numbers::are_fields, crate::specs::ELine::term_of, crate::specs::ELine::term_order21, crate::specs::ELine::term_limits22, crate::specs::ELine::term_names23, crate::specs::ELine::term_twice24, crate::specs::ELine::term_kind25, crate::specs::ELine::term_refusal, crate::specs::ELine::term_counted, crate::specs::ELine::term_entry, crate::specs::ELine::term_line, crate::specs::Drafts::with_term))]
 
 ghost use Rattle.std.specs.Prelude.{◌≡◌};
 ghost use Rattle.terms.specs.Base.{held};
@@ -44,7 +44,7 @@ fn term_of(f: &Fields) -> Term
 fn term_refusal(t: &[u64; 512], d: &Draft, f: &Fields, x: Term) -> Result<(), Refusal>
     ensures { number_in result ≡ term_refusal t.now d.now.group d.now.count (good f.now) x }
 {
-    if !f.are(4) {
+    if f.count != 4 {
         return Err(Refusal::Form);
     }
     let label = f.values[0];

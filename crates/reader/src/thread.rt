@@ -1,5 +1,5 @@
 // T agent machine program: one more listed thread; its agent is any number.
-#![tactic(auto, using(crate::proofs::Laws::refused), unfolding(crate::specs::TLine::thread_names23, crate::specs::TLine::thread_refusal, crate::specs::TLine::thread_of, crate::specs::TLine::thread_entry, crate::specs::TLine::thread_line, crate::specs::Drafts::with_thread))]
+#![tactic(auto, using(crate::proofs::Laws::refused), unfolding(crate::specs::Numbers::are_fields, crate::specs::TLine::thread_names23, crate::specs::TLine::thread_refusal, crate::specs::TLine::thread_of, crate::specs::TLine::thread_entry, crate::specs::TLine::thread_line, crate::specs::Drafts::with_thread))]
 
 ghost use Rattle.std.specs.Prelude.{◌≡◌};
 ghost use Rattle.reader.specs.Refused.{number_in};
@@ -25,7 +25,7 @@ pub fn thread_line(d: &mut Draft, f: &Option<Fields>) -> Result<(), Refusal>
 fn thread_refusal(d: &Draft, f: &Fields) -> Result<(), Refusal>
     ensures { number_in result ≡ thread_refusal d.now (good f.now) }
 {
-    if !f.are(3) {
+    if f.count != 3 {
         return Err(Refusal::Form);
     }
     if !follows(d.group, Draft::M, Draft::T) {

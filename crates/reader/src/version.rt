@@ -1,5 +1,5 @@
 // V edition: the first line, and no other.
-#![tactic(auto, using(crate::proofs::Laws::refused), unfolding(crate::specs::VLine::known_edition, crate::specs::VLine::version_order21, crate::specs::VLine::version_refusal, crate::specs::VLine::version_line, crate::specs::Drafts::with_edition))]
+#![tactic(auto, using(crate::proofs::Laws::refused), unfolding(crate::specs::Numbers::are_fields, crate::specs::VLine::known_edition, crate::specs::VLine::version_order21, crate::specs::VLine::version_refusal, crate::specs::VLine::version_line, crate::specs::Drafts::with_edition))]
 
 ghost use Rattle.std.specs.Prelude.{◌≡◌};
 ghost use Rattle.reader.specs.Refused.{number_in};
@@ -27,7 +27,7 @@ pub fn version_line(d: &mut Draft, f: &Option<Fields>) -> Result<(), Refusal>
 fn version_refusal(group: u8, f: &Fields, edition: u8) -> Result<(), Refusal>
     ensures { number_in result ≡ version_refusal group (good f.now) edition }
 {
-    if !f.are(1) {
+    if f.count != 1 {
         return Err(Refusal::Form);
     }
     if version_order21(group, edition) {

@@ -25,7 +25,7 @@ use Rattle.machine.specs.Recorded.{Left}
 use Rattle.search.specs.Place.{at_code, level_of, pushed, code_in, popped, is_done, settle_in, settled}
 use Rattle.search.specs.Enter.{no_control, reply_of, control_at, Climb, entered, enter_step, enter_in}
 use Rattle.search.specs.Turn.{goes, stands_at, turned, enters, step_of, Lent, lent, turn_on}
-use Rattle.search.specs.Search.{longer_by, longer, Scene, scene, quiet_at, passes_soon, passes_late, spent_all, entered_by, scene_after, deep_at}
+use Rattle.search.specs.Search.{longer_by, longer, Scene, scene, quiet_at, passes_soon, passes_late, spent_all, entered_late, entered_by, scene_after, deep_at}
 use Rattle.search.specs.Search.{turned_on, walk_in, walk_on}
 use Rattle.search.specs.declared.place.Place.{Place}
 use Rattle.search.specs.Enter.{Entered}
@@ -246,6 +246,30 @@ module _ (stack : List Control) (i : ℕ) (c : Control) where
 
   pub below_at : get_or (set stack (i + 1) c) i no_control ≡ get_or stack i no_control
   below_at = get_or-set_other stack (i + 1) i c no_control (λ e. omega arith)
+
+-- a level's row, which is a configuration and the depth of its deepest term, is read back as it was put
+pub row_put : (stack : List Control) (deeps : List ℕ) (i : ℕ) (c : Control) (d : ℕ) → length stack ≡ 25 → length deeps ≡ 25 → i < 24
+    → (get_or (set stack (i + 1) c) (i + 1) no_control ≡ c) × (get_or (set deeps (i + 1) d) (i + 1) 0 ≡ d)
+row_put stack deeps i c d long all small = (put_at stack i c long small, get_or-set_same deeps (i + 1) d 0 (omega arith))
+
+-- where a schedule of n + 1 codes is entered, or passed late, its level's row is read back so
+module _ (m : Model) (k : Task) (r : Lent Turned) (p : Place) (h : Happening) (c : Control) (d n : ℕ) (stack : List Control) (deeps : List ℕ)
+    (long : length stack ≡ 25) (all : length deeps ≡ 25) (small : n + 1 < 24) where
+  abbrev pub Reads : Scene → Type 0
+  Reads y = (control_at y.stack (n + 1) ≡ c) × (deep_at y.deeps (n + 1) ≡ d)
+
+  reads : (control_at (set stack (n + 1) c) (n + 1) ≡ c) × (deep_at (set deeps (n + 1) d) (n + 1) ≡ d)
+  reads = let a : level_of (n + 1) ≡ n + 1 = omega arith in rw a (row_put stack deeps n c d long all (omega arith))
+
+  late_reads : (late : Bool) → Reads (entered_late late r p h (set stack (n + 1) c) (set deeps (n + 1) d))
+  late_reads true = reads
+  late_reads false = reads
+
+  pub row_read : (quiet : Bool) → passes_soon quiet d k.outline r.table c.frame.slots m.actions ≡ false
+      → Reads (entered_by m k quiet r p h c d (level_of n) stack deeps)
+  row_read quiet e =
+      let a : level_of n ≡ n = omega arith in
+      rw (e, a) (late_reads (passes_late quiet r.table c.frame.slots c.values c.vars m.actions))
 
 -- a step's reply beside the configuration
 pub stepped_is : (r : Result Happening Refusal) (s : Control) → stepped_in r s ≡ stepped (reply_of r) s

@@ -4,8 +4,9 @@
 -- JoinShows says; it tries no code (JoinSought), or one that is refused, found or too long (JoinTried), or one that is entered
 -- (JoinLonger); JoinWalk puts turns together. JoinPass and JoinQuiet are for schedules that are passed whole.
 -- For the functions: one turn of each loop, and what stands on the stack (Laws), and that every turn which leaves the walk going
--- spends of the budget (Falls).
+-- spends of the budget (Falls). That an answer is fixed by what the definitions say of it (Only).
 pub mod Falls
+pub mod Only
 pub mod Laws
 pub mod JoinPlace
 pub mod JoinStand

@@ -162,8 +162,12 @@ task m bound = record { bound = bound; outline = outline_of m }
 unfoldable pub bound_fits : ℕ → Bool
 bound_fits bound = pick (eqb bound 0) false (leb bound 24)
 
+-- a walk that is over as a listing, with the tables as the walk left them
+abbrev pub walked : Lent Walk → ℕ → Lent Listing
+walked r budget = lent (listed (answered r.out) r.out.found (budget - r.out.left) r.out.sized r.out.place) r.table r.records r.room
+
 abbrev pub listing_walked : Lent Walk → ℕ → Held Listing
-listing_walked r budget = held (listed (answered r.out) r.out.found (budget - r.out.left) r.out.sized r.out.place) r.room
+listing_walked r budget = held (walked r budget).out r.room
 
 abbrev pub listing_entered : Left Entered → Model → ℕ → ℕ → List ℕ → Held Listing
 listing_entered e m bound budget room =

@@ -1,6 +1,6 @@
 -- One turn of the walk: the codes that refusals 1 to 7 turn down are passed together and counted as tries, then one code is
 -- tried. The table is cut back to the schedule's own terms before the try.
-use Rattle.std.specs.Prelude.{ℕ, ◌+◌, ◌-◌, ◌%◌, Bool, true, false, Option, None, Some, is_none, is_some, List, eqb, ltb, leb}
+use Rattle.std.specs.Prelude.{ℕ, ◌+◌, ◌-◌, ◌%◌, Bool, true, false, Option, None, Some, is_none, List, eqb, ltb, leb}
 use Rattle.terms.specs.Base.{pick, Held, held}
 use Rattle.terms.specs.Table.{cut_to}
 use Rattle.model.specs.declared.records.Model.{Model}
@@ -22,6 +22,8 @@ use Rattle.search.specs.declared.answer.Kind.TheVariants.{Found, Stop, End}
 use Rattle.search.specs.declared.turn.Walk.{Walk}
 use Rattle.search.specs.declared.turn.Turned.{Turned}
 use Rattle.search.specs.declared.turn.Step.{Step}
+use Rattle.search.specs.declared.turn.Next.{Next}
+use Rattle.search.specs.declared.turn.Next.TheVariants.{Nothing, Last, Longer}
 use Rattle.search.specs.declared.turn.Task.{Task}
 
 -- what a walk answers, none while it goes on
@@ -87,26 +89,34 @@ found_in room v n filled = held (stands_at v n v.place filled (ltb n (room_for r
 unfoldable pub found_on : List ℕ → Walk → Place → ℕ → Held Walk
 found_on room v q filled = found_in (schedule_put room v.found q) v (one_try_more v.found) filled
 
--- a turn's outcome: the walk after it, and the step to make where a longer schedule is entered
-abbrev pub step_if : Bool → ℕ → Labels → Option Step
-step_if true code l = Some (record { code = code; labels = l })
-step_if false code l = None
+-- a turn's outcome where a code was permitted and breaks nothing: the walk after it, and the step, which is the last where the
+-- schedule is as long as the bound with it; else a longer schedule is entered by it
+abbrev pub step_if : Bool → ℕ → Labels → Next
+step_if true code l = Longer (record { code = code; labels = l })
+step_if false code l = Last (record { code = code; labels = l })
 
 abbrev pub turned : Walk → Bool → ℕ → Labels → Turned
-turned w enters code l = record { walk = w; entered = step_if enters code l }
+turned w enters code l = record { walk = w; next = step_if enters code l }
+
+abbrev pub is_longer : Next → Bool
+is_longer Nothing = false
+is_longer (Last s) = false
+is_longer (Longer s) = true
 
 abbrev pub enters : Turned → Bool
-enters r = is_some r.entered
+enters r = is_longer r.next
 
-abbrev pub step_or : Option Step → Step
-step_or (Some s) = s
-step_or None = record { code = 0; labels = no_labels 0 }
+abbrev pub step_in : Next → Step
+step_in Nothing = record { code = 0; labels = no_labels 0 }
+step_in (Last s) = s
+step_in (Longer s) = s
 
 abbrev pub step_of : Turned → Step
-step_of r = step_or r.entered
+step_of r = step_in r.next
 
+-- no step comes of any other turn
 abbrev pub still : Walk → Turned
-still w = turned w false 0 (no_labels 0)
+still w = record { walk = w; next = Nothing }
 
 -- a permitted code that breaks nothing: the longer schedule is entered where it is shorter than the bound
 unfoldable pub entering : Walk → ℕ → ℕ → Labels → ℕ → Turned

@@ -6,7 +6,7 @@ ghost use Rattle.search.specs.Search.{scene, turned_on, longer};
 
 use crate::place::{Place, level_of, pushed};
 use crate::plain::{passes_late, passes_soon, quiet_at, spent_all};
-use crate::turn::{Step, Task, Walk, turn};
+use crate::turn::{Next, Step, Task, Walk, turn};
 use model::records::Model;
 use quiet::depths::deepest;
 use rules::event::{record_of, write_record};
@@ -30,9 +30,9 @@ pub fn advance(
         ≡ turned_on m.now k (scene w stack.old deeps.old t.old records.old room.old) }
 {
     let r = turn(t, records, room, &stack[level_of(w.place.length)], w, m, k);
-    match r.entered {
-        Some(step) => entered(t, records, stack, deeps, w.place, r.walk, step, m, k),
-        None => r.walk,
+    match r.next {
+        Next::Longer(step) => entered(t, records, stack, deeps, w.place, r.walk, step, m, k),
+        Next::Last(_) | Next::Nothing => r.walk,
     }
 }
 

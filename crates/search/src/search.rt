@@ -5,7 +5,8 @@ ghost use Rattle.terms.specs.Base.{held};
 ghost use Rattle.quiet.specs.Quiet.{outline_of};
 ghost use Rattle.search.specs.Enter.{entry};
 ghost use Rattle.search.specs.Answer.{room_for};
-ghost use Rattle.search.specs.Search.{first_walk, walk_from, bound_fits, deeps_of, listing_walked, listing_on, search_on};
+ghost use Rattle.search.specs.Turn.{lent};
+ghost use Rattle.search.specs.Search.{first_walk, walk_from, bound_fits, deeps_of, walked, listing_on, search_on};
 
 use crate::ahead::advance;
 use crate::answer::{Answer, Listing, Refusal, refused_listing};
@@ -107,8 +108,8 @@ fn walk(
     budget: u32,
     k: Task,
 ) -> Listing
-    ensures { held result room.new
-        ≡ listing_walked (walk_from t.old records.old room.old m.now (entry true stack.old p) budget k) budget }
+    ensures { lent result t.new records.new room.new
+        ≡ walked (walk_from t.old records.old room.old m.now (entry true stack.old p) budget k) budget }
 {
     let mut deeps = deeps_of(t, stack);
     let mut w = first_walk(stack, p, budget, room);

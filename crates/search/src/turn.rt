@@ -39,11 +39,22 @@ pub struct Step {
     pub labels: Labels,
 }
 
-// A turn's outcome: the walk after it, and the step by which a longer schedule is entered.
+// What a turn's code leads to.
+#[derive(Clone, Copy)]
+pub enum Next {
+    // no code was permitted, or it breaks the claim
+    Nothing,
+    // the schedule is as long as the bound with it, and is not entered
+    Last(Step),
+    // a longer schedule is entered by it
+    Longer(Step),
+}
+
+// A turn's outcome: the walk after it, and the step that was permitted.
 #[derive(Clone, Copy)]
 pub struct Turned {
     pub walk: Walk,
-    pub entered: Option<Step>,
+    pub next: Next,
 }
 
 // What is fixed of a search beside its model.
@@ -107,7 +118,11 @@ fn entering(v: Walk, length: u8, step: Step, bound: u8) -> Turned
             answer: None,
             ..v
         },
-        entered: if shorter { Some(step) } else { None },
+        next: if shorter {
+            Next::Longer(step)
+        } else {
+            Next::Last(step)
+        },
     }
 }
 
@@ -125,13 +140,13 @@ fn reached(next: u16, passed: u32) -> u16
     code_from(codes_below(next) + (passed % 256) as u16)
 }
 
-// A turn that enters nothing.
+// A turn from which no step comes.
 fn still(walk: Walk) -> Turned
     ensures { result ≡ still walk }
 {
     Turned {
         walk,
-        entered: None,
+        next: Next::Nothing,
     }
 }
 

@@ -121,15 +121,12 @@ pub fn subst(
                 return q;
             };
             let x = term_at(t, label);
-            entered(
-                t,
-                q.count(),
-                Term {
-                    a: first,
-                    b: second,
-                    ..x
-                },
-            )
+            let whole = Term {
+                a: first,
+                b: second,
+                ..x
+            };
+            entered(t, q.count(), whole)
         }
     }
 }

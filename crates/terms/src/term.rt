@@ -92,6 +92,7 @@ pub fn parts_below(x: Term, label: u16) -> bool
 }
 
 // The later of a term's parts, 0 where it has none. Parts stand before wholes, so the term stands at no label before it.
+#[tactic(auto, using(crate::proofs::Laws::larger_max), unfolding(crate::specs::Term::after_parts))]
 pub fn after_parts(x: Term) -> u16
     ensures { result ≡ after_parts x }
 {

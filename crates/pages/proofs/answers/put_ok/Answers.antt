@@ -3,9 +3,9 @@ use Rattle.lines.proofs.Puts.{put_then}
 use Rattle.pages.specs.RunText.{ok_line}
 use Rattle.pages.proofs.answers.put_ok.Goals as goal
 
-pub returns : goal.returns
+pub returns-clause-written : goal.returns-clause-written
 unfolding ok_line
-returns c =
+returns-clause-written c =
     rw (
       put_then,
       put_then,
@@ -13,12 +13,12 @@ returns c =
       put_then,
       ← c.number_at-op.ensures,
       ← c.serial_of-serial.ensures,
-      ← c.put_word.ensures,
+      ← c.put_word.ensures.written,
       ← c.from.ensures,
-      ← c.put_field.ensures,
+      ← c.put_field.ensures.written,
       ← c.from-2.ensures,
-      ← c.put_field-2.ensures,
+      ← c.put_field-2.ensures.written,
       ← c.from-3.ensures,
-      ← c.put_field-3.ensures,
-      ← c.put_end.ensures,
+      ← c.put_field-3.ensures.written,
+      ← c.put_end.ensures.written,
     )

@@ -6,9 +6,9 @@ use Rattle.pages.specs.ListPage.{sum_of, page_text, page_on}
 use Rattle.pages.proofs.Texts.{sum_capped}
 use Rattle.pages.proofs.lister.list_page.Goals as goal
 
-pub returns : goal.returns
+pub returns-clause-written : goal.returns-clause-written
 unfolding page_on page_text
-returns c =
+returns-clause-written c =
     let q : c.saturating_add-sized.result ≡ sum_of c.args.s.sized c.listing-l.result.sized =
     c.saturating_add-sized.ensures ∙ sum_capped c.args.s.sized c.listing-l.result.sized (search rules) in
     rw (
@@ -17,7 +17,7 @@ returns c =
       ← q,
       ← c.saturating_sub.ensures,
       put_then,
-      ← c.put_schedules.ensures,
-      ← c.put_last.ensures,
+      ← c.put_schedules.ensures.written,
+      ← c.put_last.ensures.written,
       ← c.goes_on.ensures,
     )

@@ -3,18 +3,18 @@ use Rattle.lines.specs.Put.{put_all}
 use Rattle.pages.specs.ListPage.{last_text}
 use Rattle.pages.proofs.lister.put_last.Goals as goal
 
-pub returns-in-Found : goal.returns-in-Found
+pub returns-in-Found-clause-written : goal.returns-in-Found-clause-written
 unfolding last_text put_all
-returns-in-Found c = rw c.in-Found.is
+returns-in-Found-clause-written c = rw c.in-Found.is
 
-pub returns-in-Stop : goal.returns-in-Stop
+pub returns-in-Stop-clause-written : goal.returns-in-Stop-clause-written
 unfolding last_text
-returns-in-Stop c = rw (c.in-Stop.is, ← c.put_closing.ensures)
+returns-in-Stop-clause-written c = rw (c.in-Stop.is, ← c.put_closing.ensures.written)
 
-pub returns-in-End : goal.returns-in-End
+pub returns-in-End-clause-written : goal.returns-in-End-clause-written
 unfolding last_text
-returns-in-End c = rw (c.in-End.is, ← c.put_closing-in-End.ensures)
+returns-in-End-clause-written c = rw (c.in-End.is, ← c.put_closing-in-End.ensures.written)
 
-pub returns-in-Refused : goal.returns-in-Refused
+pub returns-in-Refused-clause-written : goal.returns-in-Refused-clause-written
 unfolding last_text
-returns-in-Refused c = rw (c.in-Refused.is, ← c.put_refused.ensures)
+returns-in-Refused-clause-written c = rw (c.in-Refused.is, ← c.put_refused.ensures.written)

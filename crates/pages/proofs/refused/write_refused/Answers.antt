@@ -8,5 +8,5 @@ use Rattle.pages.proofs.refused.write_refused.Goals as goal
 pub returns : goal.returns
 returns g c =
     let e : c.text.result.now ≡ refused_line c.args.number c.args.line =
-    c.text.ensures ∙ refused_whole c.args.number c.args.line _ _ _ (search rules) c.put_refused.ensures in
+    c.text.ensures ∙ refused_whole c.args.number c.args.line _ _ _ (search rules) c.put_refused.ensures.written in
     rw (← e) c.write_all.ensures.bytes

@@ -1,6 +1,10 @@
 -- `search::search::listing` meets its contract: the refusals in the definition's order, then the place entered and
 -- the walk.
+use mathlib.Core.Path.{ap}
+use Rattle.terms.specs.Base.{held}
+use Rattle.search.specs.Turn.{Lent}
 use Rattle.search.specs.Search.{listing_on}
+use Rattle.search.specs.declared.answer.Listing.{Listing}
 use Rattle.search.proofs.search.listing.Goals as goal
 
 pub returns-then-not-sound_model : goal.returns-then-not-sound_model
@@ -68,5 +72,5 @@ returns-in-Ok c =
       ← c.enter.ensures,
       c.in-Ok.is,
       ← c.outline_of.ensures,
-      ← c.walk.ensures,
     )
+    (ap (λ (r : Lent Listing). held r.out r.room) c.walk.ensures)

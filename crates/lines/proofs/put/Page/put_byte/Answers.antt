@@ -3,10 +3,10 @@ use borrow.Author.Tests.{lt-ltb, le-ltb}
 use Rattle.lines.specs.Put.{put_byte}
 use Rattle.lines.proofs.put.Page.put_byte.Goals as goal
 
-pub returns-then-self : goal.returns-then-self
+pub returns-then-self-clause-written : goal.returns-then-self-clause-written
 unfolding put_byte
-returns-then-self c = rw (lt-ltb _ _ c.if-self.true)
+returns-then-self-clause-written c = rw (lt-ltb _ _ c.if-self.true)
 
-pub returns-else-self : goal.returns-else-self
+pub returns-else-self-clause-written : goal.returns-else-self-clause-written
 unfolding put_byte
-returns-else-self c = rw (le-ltb _ _ c.if-self.false)
+returns-else-self-clause-written c = rw (le-ltb _ _ c.if-self.false)
