@@ -1,8 +1,8 @@
--- The two parts in which a step is made in place, put together, are the configuration after it; and who ends by a step is
--- said without its event.
+-- The two parts in which a step is made in place, put together, are the configuration after it; work and event of a step
+-- read only so much of the configuration; and who ends by a step is said without its event.
 use Prim.Native.Nat.{ℕ}
 use mathlib.Core.Bool.{Bool, true, false}
-use mathlib.Core.List.{List}
+use mathlib.Core.List.{List, []}
 use mathlib.Core.Path.{◌≡◌, refl}
 use lib.Dec.{eqb}
 use Rattle.terms.specs.Base.{pick}
@@ -20,6 +20,7 @@ use Rattle.state.specs.declared.code.Way.TheVariants as W
 use Rattle.state.specs.declared.control.Frame.{Frame}
 use Rattle.state.specs.declared.control.Control.{Control}
 use Rattle.state.specs.declared.ended.Ended.TheVariants.{Nobody}
+use Rattle.rules.specs.Work.{work_advance, work_by, work_on}
 use Rattle.rules.specs.Happened.{advance_shown, advance_event, hand_event, happened_by, happened_on, ended_advance, ended_by, ended_on}
 use Rattle.rules.specs.Made.{Layout, Config, config_of, control, jumped_on, acted_on, launched_on, reset_on, handed_on, advanced_on, made_by, made_on, control_after}
 use Rattle.rules.specs.Parts.{Counters, Rest, rest, rest_of, control_with, slots_acted, slots_advanced, slots_handed, slots_by, slots_made, moved, started, rest_acted, rest_advanced, rest_handed, rest_reset, rest_by, rest_made}
@@ -67,6 +68,47 @@ pub made_rows : (slots locks values vars : List ℕ) (c : Counters) (n : ℕ) (g
     ≡ control_with (slots_made slots g.actions g.lengths g.machines c.serial code l.program)
     (rest_made slots (rest c locks values vars) g code l) l.count
 made_rows slots locks values vars c n g l code = made_parts (control_with slots (rest c locks values vars) n) g l code
+
+-- all that the work of a step reads of a configuration: no locks, and of the counters the nonce alone
+abbrev pub lent_control : List ℕ → List ℕ → List ℕ → ℕ → ℕ → Control
+lent_control slots values vars count nonce = record {
+  frame = record { slots = slots; locks = []; steps = 0; serial = 0; nonce = nonce };
+  values = values;
+  vars = vars;
+  count = count;
+}
+
+-- all that its event reads of a frame
+abbrev pub lent_frame : List ℕ → ℕ → Frame
+lent_frame slots serial = record { slots = slots; locks = []; steps = 0; serial = serial; nonce = 0 }
+
+-- what the work of a step reads
+work_by_lent : (w : Way) (t : List ℕ) (s : Control) (actions : List ℕ)
+    → work_by w t s actions ≡ work_by w t (lent_control s.frame.slots s.values s.vars s.count s.frame.nonce) actions
+unfolding work_advance
+work_by_lent W.Nothing t s actions = refl
+work_by_lent (W.Advance i) t s actions = refl
+work_by_lent (W.Hand i j) t s actions = refl
+work_by_lent (W.Reset m) t s actions = refl
+
+pub work_lent_lem : (t : List ℕ) (s : Control) (actions : List ℕ) (code : ℕ)
+    → work_on t s actions code ≡ work_on t (lent_control s.frame.slots s.values s.vars s.count s.frame.nonce) actions code
+unfolding work_on
+work_lent_lem t s actions code = work_by_lent (way_of code) t s actions
+
+-- what its event reads
+happened_by_lent : (w : Way) (f : Frame) (actions lengths : List ℕ) (l : Labels)
+    → happened_by w f actions lengths l ≡ happened_by w (lent_frame f.slots f.serial) actions lengths l
+unfolding advance_event hand_event
+happened_by_lent W.Nothing f actions lengths l = refl
+happened_by_lent (W.Advance i) f actions lengths l = refl
+happened_by_lent (W.Hand i j) f actions lengths l = refl
+happened_by_lent (W.Reset m) f actions lengths l = refl
+
+pub happened_lent : (f : Frame) (actions lengths : List ℕ) (code : ℕ) (l : Labels)
+    → happened_on f actions lengths code l ≡ happened_on (lent_frame f.slots f.serial) actions lengths code l
+unfolding happened_on
+happened_lent f actions lengths code l = happened_by_lent (way_of code) f actions lengths l
 
 -- who ends by a step, asked alone, is what its event says
 ends_three : (b d : Bool) (x y z : Happening) → x.ended ≡ Nobody → y.ended ≡ Nobody
