@@ -35,6 +35,12 @@ one_grade s l a b (inl e) = rw e
 one_grade s l a b (inr e) = rw e
 
 -- no part
+pub none_after : (s : Shape) (a b : ℕ) → s ≡ Bare ⊎ (s ≡ Number ⊎ (s ≡ Variable ⊎ s ≡ Unknown)) → after_by s a b ≡ 0
+none_after s a b (inl e) = rw e
+none_after s a b (inr (inl e)) = rw e
+none_after s a b (inr (inr (inl e))) = rw e
+none_after s a b (inr (inr (inr e))) = rw e
+
 pub none_parts : (s : Shape) (a b i : ℕ) → s ≡ Bare ⊎ (s ≡ Number ⊎ (s ≡ Variable ⊎ s ≡ Unknown)) → parts_by s a b i ≡ true
 none_parts s a b i (inl e) = rw e
 none_parts s a b i (inr (inl e)) = rw e
